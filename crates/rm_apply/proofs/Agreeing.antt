@@ -1,22 +1,12 @@
 -- Datafiles that are restored agree with the history with which what is at hand agrees.
-use Rattle.std.proofs.Common.{◌≡◌, ℕ, List, Option, Some, None, Contains, subst}
-use Rattle.std.proofs.lemmas.List.Elements.{All-contains}
-use Rattle.rm_base.specs.declared.block.Change.{Change}
-use Rattle.rm_base.proofs.Lists.{map_from, map_to}
-use Rattle.rm_blocks.specs.File.{File, base_of}
-use Rattle.rm_blocks.proofs.Created.{created-agrees}
-use Rattle.rm_evidence.specs.declared.evidence.Evidence.{Evidence}
-use Rattle.rm_evidence.specs.Known.{known_of}
-use Rattle.rm_history.specs.declared.world.Datafile.{Datafile}
-use Rattle.rm_history.specs.declared.world.World.{World}
-use Rattle.rm_history.specs.Agrees.{BaseAgrees}
-use Rattle.rm_history.specs.History.{IsHistory}
-use Rattle.rm_history.specs.World.{file_of}
-use Rattle.rm_history.specs.Evidence.{Agrees}
-use Rattle.rm_piece.specs.Artefacts.{base_of as copy_of}
-use Rattle.rm_piece.specs.declared.piece.Piece.{Piece}
-use Rattle.rm_apply.specs.declared.origin.Origin.{Origin}
-use Rattle.rm_apply.specs.Restore.{AreRestored, IsBackupFor, IsRestoration, file_by, restored}
+use Rattle.std.proofs.{Common.{◌≡◌, ℕ, List, Option, Some, None, Contains, subst}, lemmas.List.Elements.{All-contains}}
+use Rattle.rm_base.{specs.declared.block.Change.{Change}, proofs.Lists.{map_from, map_to}}
+use Rattle.rm_blocks.{specs.File.{File, base_of}, proofs.Created.{created-agrees}}
+use Rattle.rm_evidence.specs.{Known.{known_of}, declared.evidence.Evidence.{Evidence}}
+use Rattle.rm_history.specs.{Agrees.{BaseAgrees}, History.{IsHistory}, World.{file_of}, Evidence.{Agrees}}
+use Rattle.rm_history.specs.declared.world.{Datafile.{Datafile}, World.{World}}
+use Rattle.rm_piece.specs.{Artefacts.{base_of as copy_of}, declared.piece.Piece.{Piece}}
+use Rattle.rm_apply.specs.{Restore.{AreRestored, IsBackupFor, IsRestoration, file_by, restored}, declared.origin.Origin.{Origin}}
 
 module _ (w : World) (e : Evidence) (i s : ℕ) (h : List Change) (history : IsHistory w h) (agrees : Agrees w h (known_of e)) where
   -- a backup does, and a datafile as it was created

@@ -1,6 +1,5 @@
 -- The order in which backups are chosen.
-use Rattle.std.proofs.Common.{inl, inr, ℕ, refl, arith}
-use Rattle.std.proofs.lemmas.Bool.{cases_lt}
+use Rattle.std.proofs.{Common.{inl, inr, ℕ, refl, arith}, lemmas.Bool.{cases_lt}}
 use Rattle.rm_piece.specs.declared.piece.Piece.{Piece}
 use Rattle.rm_apply.specs.Restore.{ComesFirst}
 

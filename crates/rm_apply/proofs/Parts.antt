@@ -1,14 +1,10 @@
 -- Rows that take on the parts of their blocks are those parts.
-use Rattle.std.proofs.Common.{◌≡◌, ◌∙◌, ℕ, suc, ◌+◌, ◌<◌, List, [], ◌∷◌, ◌++◌, Some, drop, length, map, slice_get, take, ap, ap₂, subst, sym, arith, eq-eqb, ne_eqb, refl}
 use Rattle.std.specs.Option.{option_map}
-use Rattle.std.proofs.Math.Seq.{take-append_seam}
-use Rattle.std.proofs.lemmas.List.{length-map}
-use Rattle.std.proofs.lemmas.Option.{slice_get-get_or, slice_get-map}
-use Rattle.rm_base.specs.declared.block.Part.{Part}
-use Rattle.rm_base.specs.declared.block.Row.{Row}
+use Rattle.std.proofs.Common.{◌≡◌, ◌∙◌, ℕ, suc, ◌+◌, ◌<◌, List, [], ◌∷◌, ◌++◌, Some, drop, length, map, slice_get, take, ap, ap₂, subst, sym, arith, eq-eqb, ne_eqb, refl}
+use Rattle.std.proofs.{Math.Seq.{take-append_seam}, lemmas.{List.{length-map}, Option.{slice_get-get_or, slice_get-map}}}
+use Rattle.rm_base.specs.declared.block.{Part.{Part}, Row.{Row}}
 use Rattle.rm_blocks.specs.File.{IsInOrder}
-use Rattle.rm_channel.specs.Applied.{Ascend, row_by, row_of, with_parts}
-use Rattle.rm_channel.proofs.Puts.{part-before, parts-then}
+use Rattle.rm_channel.{specs.Applied.{Ascend, row_by, row_of, with_parts}, proofs.Puts.{part-before, parts-then}}
 
 -- the first part is of block b, the next one of block b + 1, and so on
 abbrev AreFrom : ℕ → List Part → Type 0

@@ -1,19 +1,13 @@
 -- Plans that are made part by part: those so far, and the datafiles that are left.
-use Rattle.std.proofs.Common.{◌≡◌, ◌∙◌, ◌++◌, ◌∷◌, [], ℕ, suc, List, All, append_assoc, length, map, slice_get, refl, sym, ap, subst, arith}
 use Rattle.std.specs.Prelude.{Result, Ok, Err, Some}
+use Rattle.std.proofs.Common.{◌≡◌, ◌∙◌, ◌++◌, ◌∷◌, [], ℕ, suc, List, All, append_assoc, length, map, slice_get, refl, sym, ap, subst, arith}
 use Rattle.std.proofs.lemmas.List.{append-nil, map-append, nil_from_length}
 use Rattle.std.proofs.lemmas.List.Elements.{All-cons, All-head, All-nil, All-push, All-same, All-tail}
-use Rattle.rm_history.specs.declared.world.World.{World}
-use Rattle.rm_history.specs.Evidence.{Evidence}
-use Rattle.rm_plan.specs.declared.plan.PlanFault.{PlanFault}
-use Rattle.rm_plan.specs.Plan.{IsFileTarget}
-use Rattle.rm_apply.specs.declared.plans.Plan.{Plan}
-use Rattle.rm_apply.specs.declared.targets.TargetFile.{TargetFile}
-use Rattle.rm_apply.specs.Applying.{AreFirst, ArePlanned, AreTried, IsPlanned, IsTried, TriedAt}
-use Rattle.rm_apply.specs.Files.{AreExactly, IsTargetFile}
-use Rattle.rm_apply.specs.Told.{IsFaultOfAll}
-use Rattle.rm_apply.proofs.Firsts.{first-fault}
-use Rattle.rm_apply.proofs.Numbers.{number}
+use Rattle.rm_history.specs.{Evidence.{Evidence}, declared.world.World.{World}}
+use Rattle.rm_plan.specs.{Plan.{IsFileTarget}, declared.plan.PlanFault.{PlanFault}}
+use Rattle.rm_apply.specs.{Applying.{AreFirst, ArePlanned, AreTried, IsPlanned, IsTried, TriedAt}, Files.{AreExactly, IsTargetFile}}
+use Rattle.rm_apply.specs.{Told.{IsFaultOfAll}, declared.{plans.Plan.{Plan}, targets.TargetFile.{TargetFile}}}
+use Rattle.rm_apply.proofs.{Firsts.{first-fault}, Numbers.{number}}
 
 abbrev pub of_plan : Plan → ℕ
 of_plan p = p.number

@@ -1,35 +1,18 @@
 -- Datafiles that are restored, one after the other.
+use Rattle.std.specs.{Prelude.{IsSomeAnd}, Option.{option_map}}
 use Rattle.std.proofs.Common.{◌≡◌, ◌≢◌, ◌<◌, ◌≤◌, ◌+◌, ◌∙◌, ℕ, List, [], ◌∷◌, ◌++◌, Option, Some, None, IfSome, get_or, length, map, take, refl, sym, ap, subst, arith}
-use Rattle.std.specs.Prelude.{IsSomeAnd}
-use Rattle.std.specs.Option.{option_map}
-use Rattle.std.proofs.lemmas.List.{map-append}
-use Rattle.std.proofs.lemmas.List.Elements.{All-append, All-cons, All-contains, All-nil}
+use Rattle.std.proofs.lemmas.List.{map-append, Elements.{All-append, All-cons, All-contains, All-nil}}
 use Rattle.std.proofs.lemmas.Option.{get_or_from_slice_get, slice_get_within}
-use Rattle.rm_base.specs.Numbers.{last_scn}
-use Rattle.rm_base.specs.declared.kinds.Kind.TheVariants.{Level1}
-use Rattle.rm_base.specs.declared.block.Row.{Row}
+use Rattle.rm_base.specs.{Numbers.{last_scn}, declared.{kinds.Kind.TheVariants.{Level1}, block.Row.{Row}}}
 use Rattle.rm_blocks.specs.File.{File, IsInOrder}
-use Rattle.rm_catalog.specs.declared.record.DatafileEntry.{DatafileEntry}
-use Rattle.rm_catalog.specs.declared.record.IncarnationEntry.{IncarnationEntry}
-use Rattle.rm_catalog.specs.declared.record.Record.{Record}
-use Rattle.rm_catalog.specs.Facts.{IsCreatedOn}
-use Rattle.rm_catalog.specs.Keys.{datafile, incarnation}
-use Rattle.rm_catalog.specs.Rules.{HasDatabase, IsCatalog}
-use Rattle.rm_evidence.specs.declared.evidence.Evidence.{Evidence}
-use Rattle.rm_evidence.specs.Known.{FitsPiece, FitsTree}
-use Rattle.rm_history.specs.declared.tree.Incarnation.{Incarnation}
-use Rattle.rm_history.specs.declared.world.Datafile.{Datafile}
-use Rattle.rm_history.specs.declared.world.World.{World}
-use Rattle.rm_history.specs.World.{file_of}
-use Rattle.rm_evidence.specs.Database.{created_by, world_of}
-use Rattle.rm_evidence.proofs.Files.{file_of-is}
-use Rattle.rm_evidence.proofs.Found.{datafile-rule, datafile-there, incarnation-rule}
-use Rattle.rm_evidence.proofs.DatabaseWorlds.{is-sound}
-use Rattle.rm_piece.specs.declared.piece.Piece.{Piece}
-use Rattle.rm_piece.proofs.Whole.{placed}
-use Rattle.rm_apply.specs.declared.origin.Origin.{Origin}
-use Rattle.rm_apply.specs.declared.targets.TargetFile.{TargetFile}
+use Rattle.rm_catalog.specs.{Facts.{IsCreatedOn}, Keys.{datafile, incarnation}, Rules.{HasDatabase, IsCatalog}}
+use Rattle.rm_catalog.specs.declared.record.{DatafileEntry.{DatafileEntry}, IncarnationEntry.{IncarnationEntry}, Record.{Record}}
+use Rattle.rm_evidence.specs.{Known.{FitsPiece, FitsTree}, Database.{created_by, world_of}, declared.evidence.Evidence.{Evidence}}
+use Rattle.rm_evidence.proofs.{Files.{file_of-is}, Found.{datafile-rule, datafile-there, incarnation-rule}, DatabaseWorlds.{is-sound}}
+use Rattle.rm_history.specs.{World.{file_of}, declared.{tree.Incarnation.{Incarnation}, world.{Datafile.{Datafile}, World.{World}}}}
+use Rattle.rm_piece.{specs.declared.piece.Piece.{Piece}, proofs.Whole.{placed}}
 use Rattle.rm_apply.specs.Restore.{AreRestored, IsBackupFor, IsRestoration, Restoration, file_by, origin_by, origin_of, restored}
+use Rattle.rm_apply.specs.declared.{origin.Origin.{Origin}, targets.TargetFile.{TargetFile}}
 use Rattle.rm_apply.proofs.Numbers.{no_file, number, numbers_more}
 
 module _ (w : World) (bases : List (ℕ × Piece)) (i s : ℕ) where

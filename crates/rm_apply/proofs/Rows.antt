@@ -1,29 +1,15 @@
 -- The parts of a plan, as the rows of a datafile that is told.
+use Rattle.std.specs.{Option.{option_map_or}, Prelude.{All}}
 use Rattle.std.proofs.Common.{◌≡◌, ◌∙◌, ℕ, zero, suc, List, [], ◌∷◌, Option, Some, Contains, map, slice_get, get_or, refl, sym, ap, subst, arith}
-use Rattle.std.specs.Option.{option_map_or}
-use Rattle.std.proofs.lemmas.List.{length-map}
-use Rattle.std.proofs.lemmas.List.Elements.{All-contains, All-map, All-weaker}
-use Rattle.std.proofs.lemmas.Option.{slice_get-get_or}
-use Rattle.std.proofs.lemmas.Simd.{map-map}
-use Rattle.std.specs.Prelude.{All}
-use Rattle.rm_base.proofs.Lists.{map_from}
-use Rattle.rm_base.specs.Content.{zero_block}
-use Rattle.rm_base.specs.declared.block.Part.{Part}
-use Rattle.rm_base.specs.declared.block.Row.{Row}
+use Rattle.std.proofs.lemmas.{List.{length-map, Elements.{All-contains, All-map, All-weaker}}, Option.{slice_get-get_or}, Simd.{map-map}}
+use Rattle.rm_base.{specs.{Content.{zero_block}, declared.block.{Part.{Part}, Row.{Row}}}, proofs.Lists.{map_from}}
 use Rattle.rm_blocks.specs.File.{File, IsInOrder}
 use Rattle.rm_channel.specs.Applied.{row_of}
-use Rattle.rm_history.specs.declared.world.Datafile.{Datafile}
-use Rattle.rm_history.specs.declared.world.World.{World}
-use Rattle.rm_history.specs.World.{blocks_of}
-use Rattle.rm_history.specs.Evidence.{Evidence}
-use Rattle.rm_history.specs.FirstGap.{IsRecoverable}
-use Rattle.rm_history.specs.Known.{Determined}
-use Rattle.rm_plan.specs.FirstGap.{FileDetermined}
-use Rattle.rm_plan.specs.Plan.{AreParts, IsFileTarget}
+use Rattle.rm_history.specs.{World.{blocks_of}, Evidence.{Evidence}, FirstGap.{IsRecoverable}, Known.{Determined}}
+use Rattle.rm_history.specs.declared.world.{Datafile.{Datafile}, World.{World}}
+use Rattle.rm_plan.specs.{FirstGap.{FileDetermined}, Plan.{AreParts, IsFileTarget}}
+use Rattle.rm_apply.specs.{Applying.{ArePlanned, IsPlanned, applied}, Files.{AreExactly}, Told.{AreFilesAt, IsTold}}
 use Rattle.rm_apply.specs.declared.plans.Plan.{Plan}
-use Rattle.rm_apply.specs.Applying.{ArePlanned, IsPlanned, applied}
-use Rattle.rm_apply.specs.Files.{AreExactly}
-use Rattle.rm_apply.specs.Told.{AreFilesAt, IsTold}
 
 -- the part of a row
 part-at : (parts : List Part) (k : ℕ) (r : Row) → slice_get (map row_of parts) k ≡ Some r → (p : Part) × (slice_get parts k ≡ Some p) × (row_of p ≡ r)

@@ -1,18 +1,11 @@
 -- The rows that come back, as the states of a history.
-use Rattle.std.proofs.Common.{◌≡◌, ◌<◌, ◌+◌, ◌∙◌, ℕ, zero, suc, List, [], ◌∷◌, Option, Some, length, slice_get, refl, sym, ap, subst, arith}
 use Rattle.std.specs.Option.{option_map_or}
+use Rattle.std.proofs.Common.{◌≡◌, ◌<◌, ◌+◌, ◌∙◌, ℕ, zero, suc, List, [], ◌∷◌, Option, Some, length, slice_get, refl, sym, ap, subst, arith}
 use Rattle.std.proofs.lemmas.Option.{slice_get_within}
-use Rattle.rm_base.specs.declared.block.Change.{Change}
-use Rattle.rm_base.specs.declared.block.Row.{Row}
+use Rattle.rm_base.specs.declared.block.{Change.{Change}, Row.{Row}}
 use Rattle.rm_blocks.specs.File.{File}
-use Rattle.rm_history.specs.declared.world.Datafile.{Datafile}
-use Rattle.rm_history.specs.declared.world.World.{World}
-use Rattle.rm_history.specs.History.{IsHistory}
-use Rattle.rm_history.specs.State.{rows_from, state, states}
-use Rattle.rm_history.specs.World.{blocks_of}
-use Rattle.rm_history.specs.Evidence.{Agrees, Evidence}
-use Rattle.rm_history.specs.FirstGap.{IsTarget}
-use Rattle.rm_history.proofs.Facts.{told-is-true}
+use Rattle.rm_history.specs.{History.{IsHistory}, State.{rows_from, state, states}, World.{blocks_of}, Evidence.{Agrees, Evidence}}
+use Rattle.rm_history.{specs.{FirstGap.{IsTarget}, declared.world.{Datafile.{Datafile}, World.{World}}}, proofs.Facts.{told-is-true}}
 use Rattle.rm_plan.specs.Plan.{IsFileTarget}
 use Rattle.rm_apply.specs.Told.{IsTold}
 

@@ -1,13 +1,10 @@
 -- A backup that gave up its rows.
 use Rattle.std.proofs.Common.{◌≡◌, ◌≢◌, ◌<◌, ◌⊎◌, ◌∙◌, inl, inr, ℕ, zero, suc, List, [], ◌∷◌, Option, Some, None, IfSome, Contains, get_or, length, slice_get, slice_set, subst, sym}
-use Rattle.std.proofs.lemmas.List.{set-get_or, set-set}
-use Rattle.std.proofs.lemmas.Option.{slice_get-get_or}
-use Rattle.rm_base.specs.Choice.{IsChoice}
-use Rattle.rm_base.proofs.Members.{behind, first-or-rest, in-front}
+use Rattle.std.proofs.lemmas.{List.{set-get_or, set-set}, Option.{slice_get-get_or}}
+use Rattle.rm_base.{specs.Choice.{IsChoice}, proofs.Members.{behind, first-or-rest, in-front}}
 use Rattle.rm_history.specs.declared.tree.Incarnation.{Incarnation}
 use Rattle.rm_piece.specs.declared.piece.Piece.{Piece}
-use Rattle.rm_apply.specs.Restore.{ComesFirst, MayRestore}
-use Rattle.rm_apply.specs.Taking.{Stays}
+use Rattle.rm_apply.specs.{Restore.{ComesFirst, MayRestore}, Taking.{Stays}}
 
 -- an item of a list after one was set is that one, or was there
 set-held : {X : Type 0} (xs : List X) (k : ℕ) (new y : X) → Contains (slice_set xs k new) y → (new ≡ y) ⊎ Contains xs y

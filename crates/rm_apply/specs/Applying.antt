@@ -2,14 +2,9 @@
 use Rattle.std.specs.Prelude.{ℕ, ◌≡◌, ◌++◌, List, [], ◌∷◌, All, Result, IfOk, IfErr, Some, length, map, slice_get}
 use Rattle.rm_blocks.specs.File.{File, IsInOrder}
 use Rattle.rm_channel.specs.Applied.{row_of}
-use Rattle.rm_history.specs.declared.world.World.{World}
-use Rattle.rm_history.specs.World.{blocks_of}
-use Rattle.rm_history.specs.Evidence.{Evidence}
-use Rattle.rm_plan.specs.declared.plan.PlanFault.{PlanFault}
-use Rattle.rm_plan.specs.Plan.{AreParts, IsFileFault, IsFileTarget}
-use Rattle.rm_apply.specs.declared.plans.Plan.{Plan}
-use Rattle.rm_apply.specs.declared.targets.TargetFile.{TargetFile}
-use Rattle.rm_apply.specs.Files.{AreExactly}
+use Rattle.rm_history.specs.{World.{blocks_of}, Evidence.{Evidence}, declared.world.World.{World}}
+use Rattle.rm_plan.specs.{Plan.{AreParts, IsFileFault, IsFileTarget}, declared.plan.PlanFault.{PlanFault}}
+use Rattle.rm_apply.specs.{Files.{AreExactly}, declared.{plans.Plan.{Plan}, targets.TargetFile.{TargetFile}}}
 
 -- part k is of block k, and there is a row for each part
 pub record IsReady (p : Plan) : Type 0 where

@@ -1,8 +1,6 @@
 -- The datafiles of a target, by their numbers.
 use Rattle.std.specs.Prelude.{ℕ, ◌≡◌, ◌<◌, ◌↔◌, Option, Some, None, List, Contains, AllPairs}
-use Rattle.rm_history.specs.declared.world.Datafile.{Datafile}
-use Rattle.rm_history.specs.declared.world.World.{World}
-use Rattle.rm_history.specs.World.{file_of}
+use Rattle.rm_history.specs.{World.{file_of}, declared.world.{Datafile.{Datafile}, World.{World}}}
 use Rattle.rm_plan.specs.Plan.{IsFileTarget}
 use Rattle.rm_apply.specs.declared.targets.TargetFile.{TargetFile}
 

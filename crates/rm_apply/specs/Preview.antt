@@ -1,22 +1,14 @@
 -- What a preview tells: the origins of a restore, and the first gap of a recovery.
 use Rattle.std.specs.Prelude.{ℕ, ◌≡◌, Option, List}
-use Rattle.rm_base.specs.Store.{Held}
-use Rattle.rm_base.specs.declared.kinds.Bad.{Bad}
+use Rattle.rm_base.specs.{Store.{Held}, declared.kinds.Bad.{Bad}}
 use Rattle.rm_blocks.specs.File.{File}
 use Rattle.rm_catalog.specs.declared.record.Record.{Record}
-use Rattle.rm_evidence.specs.declared.evidence.Evidence.{Evidence}
-use Rattle.rm_evidence.specs.declared.evidence.InPlace.{InPlace}
-use Rattle.rm_evidence.specs.Known.{known_of}
+use Rattle.rm_evidence.specs.{Known.{known_of}, Database.{world_of}, declared.evidence.{Evidence.{Evidence}, InPlace.{InPlace}}}
 use Rattle.rm_history.specs.declared.world.World.{World}
-use Rattle.rm_evidence.specs.Database.{world_of}
 use Rattle.rm_piece.specs.declared.piece.Piece.{Piece}
-use Rattle.rm_plan.specs.declared.plan.Gap.{Gap}
-use Rattle.rm_plan.specs.Plan.{IsFileTarget}
+use Rattle.rm_plan.specs.{Plan.{IsFileTarget}, declared.plan.Gap.{Gap}}
+use Rattle.rm_apply.specs.{Files.{AreExactly}, Recover.{IsEvidence}, Restore.{AreRestored}, Told.{IsGapOrNone}}
 use Rattle.rm_apply.specs.declared.origin.Origin.{Origin}
-use Rattle.rm_apply.specs.Files.{AreExactly}
-use Rattle.rm_apply.specs.Recover.{IsEvidence}
-use Rattle.rm_apply.specs.Restore.{AreRestored}
-use Rattle.rm_apply.specs.Told.{IsGapOrNone}
 
 -- the origins of the datafiles of these numbers, in order: those of a restore
 abbrev pub AreOrigins : World → List (ℕ × Piece) → ℕ → ℕ → List ℕ → List Origin → Type 0

@@ -1,21 +1,13 @@
 -- What a recovery answers.
 use Rattle.std.specs.Prelude.{ℕ, ◌≡◌, ◌||◌, nat_lt, if◌then◌else◌, Option, Some, None, List, Result, Ok, Err}
 use Rattle.rm_base.specs.Store.{Held}
-use Rattle.rm_catalog.specs.declared.record.Record.{Record}
-use Rattle.rm_catalog.specs.Trees.{nodes}
-use Rattle.rm_evidence.specs.declared.evidence.Evidence.{Evidence}
-use Rattle.rm_evidence.specs.declared.evidence.InPlace.{InPlace}
-use Rattle.rm_evidence.specs.Gathered.{IsGathered}
-use Rattle.rm_evidence.specs.Known.{FitsTree, known_of}
-use Rattle.rm_evidence.specs.Seen.{IsSeen}
-use Rattle.rm_history.specs.declared.tree.Incarnation.{Incarnation}
-use Rattle.rm_history.specs.Tree.{reset_of, end_of}
-use Rattle.rm_evidence.specs.Database.{world_of}
+use Rattle.rm_catalog.specs.{Trees.{nodes}, declared.record.Record.{Record}}
+use Rattle.rm_evidence.specs.{Gathered.{IsGathered}, Known.{FitsTree, known_of}, Seen.{IsSeen}, Database.{world_of}}
+use Rattle.rm_evidence.specs.declared.evidence.{Evidence.{Evidence}, InPlace.{InPlace}}
+use Rattle.rm_history.specs.{Tree.{reset_of, end_of}, declared.tree.Incarnation.{Incarnation}}
 use Rattle.rm_plan.specs.declared.plan.Gap.{Gap}
-use Rattle.rm_apply.specs.declared.fault.RecoverFault.{RecoverFault}
-use Rattle.rm_apply.specs.declared.fault.RecoverFault.TheVariants as fault
+use Rattle.rm_apply.specs.{Told.{AreFilesAt, IsGapOfAll}, declared.fault.RecoverFault.{RecoverFault, TheVariants as fault}}
 use Rattle.rm_apply.specs.declared.recovering.Recovered.{Recovered}
-use Rattle.rm_apply.specs.Told.{AreFilesAt, IsGapOfAll}
 
 -- the resetlogs SCN of incarnation i and its end, where s is below the one or above the other
 abbrev pub outside : List Incarnation → ℕ → ℕ → Option (ℕ × ℕ)

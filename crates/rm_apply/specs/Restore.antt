@@ -1,23 +1,14 @@
 -- What a restore puts in place: of each datafile the chosen backup, or else the datafile as it was created.
 use Rattle.std.specs.Prelude.{ℕ, ◌≡◌, ◌<◌, ◌≤◌, ◌⊎◌, IsTrue, Option, Some, None, List, All, map}
-use Rattle.rm_base.specs.Choice.{IsChoice}
-use Rattle.rm_base.specs.Store.{Held}
+use Rattle.rm_base.specs.{Choice.{IsChoice}, Store.{Held}}
 use Rattle.rm_blocks.specs.File.{File, created}
 use Rattle.rm_catalog.specs.declared.record.Record.{Record}
-use Rattle.rm_evidence.specs.declared.evidence.Evidence.{Evidence}
-use Rattle.rm_evidence.specs.declared.evidence.InPlace.{InPlace}
-use Rattle.rm_history.specs.declared.tree.Incarnation.{Incarnation}
-use Rattle.rm_history.specs.declared.world.Datafile.{Datafile}
+use Rattle.rm_evidence.specs.{Database.{world_of}, declared.evidence.{Evidence.{Evidence}, InPlace.{InPlace}}}
+use Rattle.rm_history.specs.{Tree.{is_within}, World.{file_of}, declared.{tree.Incarnation.{Incarnation}, world.Datafile.{Datafile}}}
 use Rattle.rm_history.specs.declared.world.World.{World}
-use Rattle.rm_history.specs.Tree.{is_within}
-use Rattle.rm_history.specs.World.{file_of}
-use Rattle.rm_evidence.specs.Database.{world_of}
 use Rattle.rm_piece.specs.declared.piece.Piece.{Piece}
-use Rattle.rm_apply.specs.declared.origin.Origin.{Origin}
-use Rattle.rm_apply.specs.declared.origin.Origin.TheVariants.{Backup, Created}
-use Rattle.rm_apply.specs.declared.recovering.Recovered.{Recovered}
-use Rattle.rm_apply.specs.Files.{AreExactly, IsAsked}
-use Rattle.rm_apply.specs.Recover.{IsEvidence}
+use Rattle.rm_apply.specs.{Files.{AreExactly, IsAsked}, Recover.{IsEvidence}, declared.origin.Origin.{Origin}}
+use Rattle.rm_apply.specs.declared.{origin.Origin.TheVariants.{Backup, Created}, recovering.Recovered.{Recovered}}
 
 -- A backup of datafile f whose incarnation is on the path of i, whose high is at most its segment end there, if
 -- that ends, and whose checkpoint is at most s. What is in place has the id 0 and is none.

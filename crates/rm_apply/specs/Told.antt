@@ -2,16 +2,9 @@
 use Rattle.std.specs.Prelude.{ℕ, ◌≡◌, Option, Some, None, List, All, length, map, slice_get}
 use Rattle.rm_base.specs.declared.block.Row.{Row}
 use Rattle.rm_blocks.specs.File.{File}
-use Rattle.rm_history.specs.declared.world.World.{World}
-use Rattle.rm_history.specs.World.{blocks_of}
-use Rattle.rm_history.specs.Evidence.{Evidence}
-use Rattle.rm_history.specs.FirstGap.{IsFirstGap, IsRecoverable}
-use Rattle.rm_history.specs.Known.{Determined}
-use Rattle.rm_history.specs.Unknown.{IsUnknown}
-use Rattle.rm_plan.specs.declared.plan.Gap.{Gap}
-use Rattle.rm_plan.specs.declared.plan.PlanFault.{PlanFault}
-use Rattle.rm_plan.specs.declared.plan.PlanFault.TheVariants as planned
-use Rattle.rm_plan.specs.Plan.{IsFileTarget}
+use Rattle.rm_history.specs.{World.{blocks_of}, Evidence.{Evidence}, FirstGap.{IsFirstGap, IsRecoverable}, Known.{Determined}}
+use Rattle.rm_history.specs.{Unknown.{IsUnknown}, declared.world.World.{World}}
+use Rattle.rm_plan.specs.{Plan.{IsFileTarget}, declared.plan.{Gap.{Gap}, PlanFault.{PlanFault, TheVariants as planned}}}
 use Rattle.rm_apply.specs.Files.{AreExactly}
 
 -- x is datafile f at (i, s): each block has the version and the content that the evidence determines

@@ -1,6 +1,5 @@
 //! Datafiles as their plans put them in place. That takes no memory: their rows and room were made before.
-ghost use Rattle.std.specs.Prelude.{◌≡◌, ◌<◌, ◌≤◌, ◌+◌, ◌∷◌, ◌++◌, [], All, IfOk, length, map};
-ghost use Rattle.std.specs.Vec.{vec_capacity, vec_len};
+ghost use Rattle.std.specs.{Prelude.{◌≡◌, ◌<◌, ◌≤◌, ◌+◌, ◌∷◌, ◌++◌, [], All, IfOk, length, map}, Vec.{vec_capacity, vec_len}};
 ghost use Rattle.rm_apply.specs.Applying.{IsReady, applied};
 
 use crate::plans::Plan;

@@ -1,9 +1,7 @@
 //! The backup from which a datafile is restored, and its origin.
-ghost use Rattle.std.specs.Prelude.{◌≡◌, ◌↔◌, IsTrue};
-ghost use Rattle.std.specs.Option.{option_copied};
+ghost use Rattle.std.specs.{Prelude.{◌≡◌, ◌↔◌, IsTrue}, Option.{option_copied}};
 ghost use Rattle.rm_history.specs.Tree.{IsThere};
-ghost use Rattle.rm_apply.specs.Restore.{ComesFirst, IsBackupFor, MayRestore, origin_by};
-ghost use Rattle.rm_apply.specs.Taking.{base_at};
+ghost use Rattle.rm_apply.specs.{Restore.{ComesFirst, IsBackupFor, MayRestore, origin_by}, Taking.{base_at}};
 
 use crate::origin::Origin;
 use rm_base::{FileNo, IncNo, Scn};

@@ -1,13 +1,10 @@
 //! Recovery, restore and preview of what is in place, which stays: an equal one is moved into what is at hand.
 ghost use Rattle.std.specs.Prelude.{◌≡◌, ◌≤◌, IfErr, IfOk, IsErrOf, length};
 ghost use Rattle.rm_base.specs.Outside.{Rose};
-ghost use Rattle.rm_catalog.specs.Rules.{HasDatabase};
-ghost use Rattle.rm_catalog.specs.Trees.{nodes};
+ghost use Rattle.rm_catalog.specs.{Rules.{HasDatabase}, Trees.{nodes}};
 ghost use Rattle.rm_evidence.specs.Place.{FitsPlace};
 ghost use Rattle.rm_history.specs.Tree.{IsThere};
-ghost use Rattle.rm_apply.specs.Preview.{Previews};
-ghost use Rattle.rm_apply.specs.Recover.{FindsGap, IfGap, TellsAll, outside, until_of};
-ghost use Rattle.rm_apply.specs.Restore.{Restores};
+ghost use Rattle.rm_apply.specs.{Preview.{Previews}, Recover.{FindsGap, IfGap, TellsAll, outside, until_of}, Restore.{Restores}};
 
 use crate::fault::RecoverFault;
 use crate::origin::Origin;

@@ -1,26 +1,15 @@
 //! What the definitions of recovery and restore mean.
 ghost use Rattle.std.specs.Prelude.{ℕ, ◌≡◌, ◌<◌, ◌↔◌, Option, Some, List, Contains};
-ghost use Rattle.rm_base.specs.Store.{Held};
-ghost use Rattle.rm_base.specs.declared.block.Change.{Change};
+ghost use Rattle.rm_base.specs.{Store.{Held}, declared.block.Change.{Change}};
 ghost use Rattle.rm_blocks.specs.File.{File, base_of};
-ghost use Rattle.rm_catalog.specs.declared.record.Record.{Record};
-ghost use Rattle.rm_catalog.specs.Rules.{IsCatalog};
-ghost use Rattle.rm_evidence.specs.declared.evidence.Evidence.{Evidence};
-ghost use Rattle.rm_evidence.specs.declared.evidence.InPlace.{InPlace};
-ghost use Rattle.rm_evidence.specs.Gathered.{IsBaseOf, IsGathered};
-ghost use Rattle.rm_evidence.specs.Known.{known_of};
-ghost use Rattle.rm_history.specs.Agrees.{BaseAgrees};
-ghost use Rattle.rm_history.specs.History.{IsHistory};
-ghost use Rattle.rm_history.specs.State.{states};
-ghost use Rattle.rm_history.specs.World.{blocks_of};
-ghost use Rattle.rm_history.specs.Evidence.{Agrees};
-ghost use Rattle.rm_evidence.specs.Database.{world_of};
+ghost use Rattle.rm_catalog.specs.{Rules.{IsCatalog}, declared.record.Record.{Record}};
+ghost use Rattle.rm_evidence.specs.{Gathered.{IsBaseOf, IsGathered}, Known.{known_of}, Database.{world_of}};
+ghost use Rattle.rm_evidence.specs.declared.evidence.{Evidence.{Evidence}, InPlace.{InPlace}};
+ghost use Rattle.rm_history.specs.{Agrees.{BaseAgrees}, History.{IsHistory}, State.{states}, World.{blocks_of}, Evidence.{Agrees}};
 ghost use Rattle.rm_piece.specs.declared.piece.Piece.{Piece};
 ghost use Rattle.rm_plan.specs.declared.plan.Gap.{Gap};
-ghost use Rattle.rm_apply.specs.declared.origin.Origin.{Origin};
+ghost use Rattle.rm_apply.specs.{Recover.{FindsGap, TellsAll}, Restore.{Restores}, declared.origin.Origin.{Origin}};
 ghost use Rattle.rm_apply.specs.declared.recovering.Recovered.{Recovered};
-ghost use Rattle.rm_apply.specs.Recover.{FindsGap, TellsAll};
-ghost use Rattle.rm_apply.specs.Restore.{Restores};
 
 /// What recovery brings back is what the history made of each block, where what is at hand agrees with it.
 pub fn what_comes_back_is_true()

@@ -1,12 +1,9 @@
 //! What the evidence tells of the datafiles of a target, before any of it is applied.
 ghost use Rattle.std.specs.Prelude.{◌≡◌, ◌<◌, ◌++◌, All, IfErr, IfOk, OnOk, length, map};
-ghost use Rattle.rm_catalog.specs.Rules.{HasDatabase};
-ghost use Rattle.rm_catalog.specs.Trees.{nodes};
-ghost use Rattle.rm_evidence.specs.Known.{FitsTree, known_of};
-ghost use Rattle.rm_evidence.specs.Database.{world_of};
+ghost use Rattle.rm_catalog.specs.{Rules.{HasDatabase}, Trees.{nodes}};
+ghost use Rattle.rm_evidence.specs.{Known.{FitsTree, known_of}, Database.{world_of}};
 ghost use Rattle.rm_plan.specs.Plan.{IsFileFault, IsFileTarget};
-ghost use Rattle.rm_apply.specs.Applying.{AreFirst, ArePlanned, AreTried, IsPlanned, TriedAt};
-ghost use Rattle.rm_apply.specs.Files.{AreExactly, IsTargetFile};
+ghost use Rattle.rm_apply.specs.{Applying.{AreFirst, ArePlanned, AreTried, IsPlanned, TriedAt}, Files.{AreExactly, IsTargetFile}};
 ghost use Rattle.rm_apply.specs.Told.{IsFaultOfAll};
 
 use crate::applying::blank_rows;

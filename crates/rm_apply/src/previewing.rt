@@ -1,14 +1,10 @@
 //! What a restore and a recovery would do.
 ghost use Rattle.std.specs.Prelude.{◌≡◌, ◌≤◌, ◌∷◌, [], All, IfErr, IfOk, IsErrOf, map};
 ghost use Rattle.rm_base.specs.Outside.{Rose};
-ghost use Rattle.rm_catalog.specs.Rules.{HasDatabase};
-ghost use Rattle.rm_catalog.specs.Trees.{nodes};
-ghost use Rattle.rm_evidence.specs.Place.{FitsPlace};
+ghost use Rattle.rm_catalog.specs.{Rules.{HasDatabase}, Trees.{nodes}};
+ghost use Rattle.rm_evidence.specs.{Place.{FitsPlace}, Database.{world_of}};
 ghost use Rattle.rm_history.specs.Tree.{IsThere};
-ghost use Rattle.rm_evidence.specs.Database.{world_of};
-ghost use Rattle.rm_apply.specs.Files.{IsTargetFile};
-ghost use Rattle.rm_apply.specs.Preview.{AreOrigins, Previews};
-ghost use Rattle.rm_apply.specs.Recover.{IfGap, outside, until_of};
+ghost use Rattle.rm_apply.specs.{Files.{IsTargetFile}, Preview.{AreOrigins, Previews}, Recover.{IfGap, outside, until_of}};
 
 use crate::choice::{base_at, choose, origin_by};
 use crate::fault::RecoverFault;

@@ -1,14 +1,10 @@
 //! Recovery from all that is at hand.
 ghost use Rattle.std.specs.Prelude.{◌≡◌, ◌≤◌, IfErr, IfOk, IsErrOf, length};
 ghost use Rattle.rm_base.specs.Outside.{Rose};
-ghost use Rattle.rm_catalog.specs.Rules.{HasDatabase};
-ghost use Rattle.rm_catalog.specs.Trees.{nodes};
-ghost use Rattle.rm_evidence.specs.Known.{FitsTree, known_of};
-ghost use Rattle.rm_evidence.specs.Place.{FitsPlace};
+ghost use Rattle.rm_catalog.specs.{Rules.{HasDatabase}, Trees.{nodes}};
+ghost use Rattle.rm_evidence.specs.{Known.{FitsTree, known_of}, Place.{FitsPlace}, Database.{world_of}};
 ghost use Rattle.rm_history.specs.Tree.{IsThere};
-ghost use Rattle.rm_evidence.specs.Database.{world_of};
-ghost use Rattle.rm_apply.specs.Recover.{FindsGap, IfGap, TellsAll, outside, until_of};
-ghost use Rattle.rm_apply.specs.Told.{AreFilesAt, IsFaultOfAll};
+ghost use Rattle.rm_apply.specs.{Recover.{FindsGap, IfGap, TellsAll, outside, until_of}, Told.{AreFilesAt, IsFaultOfAll}};
 
 use crate::applying::{apply_all, room};
 use crate::fault::RecoverFault;

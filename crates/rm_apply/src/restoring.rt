@@ -1,20 +1,14 @@
 //! Restores, from backups or else as datafiles were created.
 ghost use Rattle.std.specs.Prelude.{◌≡◌, ◌≢◌, ◌<◌, ◌≤◌, ◌∷◌, [], ℕ, All, AllPairs, IfErr, IfOk, IfSome, IsErrOf, List, Option, length, map, slice_get};
-ghost use Rattle.rm_base.specs.Numbers.{last_scn};
-ghost use Rattle.rm_base.specs.Outside.{Rose};
+ghost use Rattle.rm_base.specs.{Numbers.{last_scn}, Outside.{Rose}};
 ghost use Rattle.rm_blocks.specs.File.{IsInOrder};
-ghost use Rattle.rm_catalog.specs.Rules.{HasDatabase};
-ghost use Rattle.rm_catalog.specs.Trees.{nodes};
-ghost use Rattle.rm_evidence.specs.Place.{FitsPlace};
-ghost use Rattle.rm_history.specs.Tree.{IsThere};
-ghost use Rattle.rm_history.specs.declared.tree.Incarnation.{Incarnation};
+ghost use Rattle.rm_catalog.specs.{Rules.{HasDatabase}, Trees.{nodes}};
+ghost use Rattle.rm_evidence.specs.{Place.{FitsPlace}, Database.{world_of}};
+ghost use Rattle.rm_history.specs.{Tree.{IsThere}, declared.tree.Incarnation.{Incarnation}};
 ghost use Rattle.rm_piece.specs.declared.piece.Piece.{Piece};
+ghost use Rattle.rm_apply.specs.{Files.{IsTargetFile}, Recover.{IfGap, outside, until_of}};
+ghost use Rattle.rm_apply.specs.{Restore.{AreRestored, IsBackupFor, Restores, backed_up, file_by}, Taking.{Stays, base_at}};
 ghost use Rattle.rm_apply.specs.declared.targets.TargetFile.{TargetFile};
-ghost use Rattle.rm_evidence.specs.Database.{world_of};
-ghost use Rattle.rm_apply.specs.Files.{IsTargetFile};
-ghost use Rattle.rm_apply.specs.Recover.{IfGap, outside, until_of};
-ghost use Rattle.rm_apply.specs.Restore.{AreRestored, IsBackupFor, Restores, backed_up, file_by};
-ghost use Rattle.rm_apply.specs.Taking.{Stays, base_at};
 
 use crate::choice::{base_at, choose, origin_by};
 use crate::fault::RecoverFault;

@@ -1,30 +1,16 @@
 -- What is at hand, by the evidence.
+use Rattle.std.specs.{Prelude.{option_and_then}, Option.{option_map}}
 use Rattle.std.proofs.Common.{◌≡◌, ◌≢◌, ◌↔◌, ◌≤◌, ◌∙◌, inl, inr, ℕ, List, Option, Some, None, refl, ap, sym, subst, arith, eqb, map, All, Contains}
-use Rattle.std.specs.Prelude.{option_and_then}
-use Rattle.std.specs.Option.{option_map}
-use Rattle.std.proofs.lemmas.Bool.{eqb-true, eq-eqb}
-use Rattle.std.proofs.lemmas.List.Elements.{All-contains, Contains-append_cases, Contains-append_right}
+use Rattle.std.proofs.lemmas.{Bool.{eqb-true, eq-eqb}, List.Elements.{All-contains, Contains-append_cases, Contains-append_right}}
 use Rattle.std.proofs.lemmas.Option.{same_Some}
-use Rattle.rm_base.proofs.Lists.{find_cases, find_none, map_from}
-use Rattle.rm_base.specs.Store.{Held}
-use Rattle.rm_base.specs.declared.kinds.Kind.TheVariants.{Level1}
-use Rattle.rm_catalog.specs.declared.record.PieceEntry.{PieceEntry}
-use Rattle.rm_catalog.specs.declared.record.Record.{Record}
-use Rattle.rm_catalog.specs.declared.record.Record.TheVariants as records
-use Rattle.rm_catalog.specs.Keys.{at, piece_in, place as place_of_id}
-use Rattle.rm_catalog.specs.Rules.{IsCatalog}
-use Rattle.rm_catalog.proofs.ByKinds.{free-in}
-use Rattle.rm_catalog.proofs.Told.{some_is}
-use Rattle.rm_evidence.specs.declared.evidence.Evidence.{Evidence}
-use Rattle.rm_evidence.specs.declared.evidence.InPlace.{InPlace}
-use Rattle.rm_evidence.specs.Available.{HasPieceObject}
-use Rattle.rm_evidence.specs.Database.{database_in, dbid_in}
-use Rattle.rm_evidence.specs.Gathered.{IsGathered, IsPieceAmong, placed, placed_piece}
-use Rattle.rm_evidence.specs.Known.{FitsPiece}
+use Rattle.rm_base.{specs.{Store.{Held}, declared.kinds.Kind.TheVariants.{Level1}}, proofs.Lists.{find_cases, find_none, map_from}}
+use Rattle.rm_catalog.specs.{Keys.{at, piece_in, place as place_of_id}, Rules.{IsCatalog}, declared.record.PieceEntry.{PieceEntry}}
+use Rattle.rm_catalog.{specs.declared.record.Record.{Record, TheVariants as records}, proofs.{ByKinds.{free-in}, Told.{some_is}}}
+use Rattle.rm_evidence.specs.{Available.{HasPieceObject}, Database.{database_in, dbid_in}}
+use Rattle.rm_evidence.specs.{Gathered.{IsGathered, IsPieceAmong, placed, placed_piece}, Known.{FitsPiece}}
+use Rattle.rm_evidence.{specs.declared.evidence.{Evidence.{Evidence}, InPlace.{InPlace}}, proofs.Found.{at-is, obeys}}
 use Rattle.rm_history.specs.declared.tree.Incarnation.{Incarnation}
-use Rattle.rm_evidence.proofs.Found.{at-is, obeys}
-use Rattle.rm_piece.specs.declared.piece.Piece.{Piece}
-use Rattle.rm_piece.proofs.Fitting.{spelling_same}
+use Rattle.rm_piece.{specs.declared.piece.Piece.{Piece}, proofs.Fitting.{spelling_same}}
 use Rattle.rm_backup.specs.Renewed.{copy_at}
 
 -- a copy that is found is one of those at hand, with this id

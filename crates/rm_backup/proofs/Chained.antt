@@ -1,20 +1,12 @@
 -- What a copy keeps while it takes over one level 1 after another.
-use Rattle.std.proofs.Common.{◌≡◌, ◌<◌, ◌≤◌, ℕ, List, Some, All, Contains, sym, subst, arith}
-use Rattle.std.proofs.lemmas.List.Elements.{All-contains}
+use Rattle.std.proofs.{Common.{◌≡◌, ◌<◌, ◌≤◌, ℕ, List, Some, All, Contains, sym, subst, arith}, lemmas.List.Elements.{All-contains}}
 use Rattle.rm_base.specs.declared.block.Change.{Change}
-use Rattle.rm_catalog.specs.declared.record.Record.{Record}
-use Rattle.rm_catalog.specs.Trees.{nodes}
+use Rattle.rm_catalog.specs.{Trees.{nodes}, declared.record.Record.{Record}}
 use Rattle.rm_evidence.specs.Known.{FitsPiece}
-use Rattle.rm_history.specs.declared.tree.Incarnation.{Incarnation}
-use Rattle.rm_history.specs.declared.world.World.{World}
-use Rattle.rm_history.specs.Agrees.{BaseAgrees, Level1Agrees}
-use Rattle.rm_history.specs.History.{IsHistory}
-use Rattle.rm_history.specs.Tree.{IsThere, IsTree}
-use Rattle.rm_merge.specs.Merge.{Meets, merged}
-use Rattle.rm_merge.proofs.Merged.{merged_agrees, merged_valid, no_level1}
-use Rattle.rm_piece.specs.declared.piece.Piece.{Piece}
-use Rattle.rm_piece.specs.Artefacts.{base_of, level1_of}
-use Rattle.rm_piece.specs.Valid.{IsPiece}
+use Rattle.rm_history.specs.{Agrees.{BaseAgrees, Level1Agrees}, History.{IsHistory}, Tree.{IsThere, IsTree}}
+use Rattle.rm_history.specs.declared.{tree.Incarnation.{Incarnation}, world.World.{World}}
+use Rattle.rm_merge.{specs.Merge.{Meets, merged}, proofs.Merged.{merged_agrees, merged_valid, no_level1}}
+use Rattle.rm_piece.specs.{Artefacts.{base_of, level1_of}, Valid.{IsPiece}, declared.piece.Piece.{Piece}}
 use Rattle.rm_backup.specs.Level1s.{IsNext, IsReached, start, next}
 
 module _ (rs : List Record) (f : ℕ) (tag : List ℕ) (s : ℕ) (level1s : List (ℕ × Piece)) where

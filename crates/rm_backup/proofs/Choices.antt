@@ -1,24 +1,13 @@
 -- The choice among the records, where one record more is looked at.
+use Rattle.std.specs.{List.{cons_option}, Option.{option_map}}
 use Rattle.std.proofs.Common.{◌≡◌, ◌∙◌, inl, inr, ℕ, List, Option, Some, None, [], ◌∷◌, ◌++◌, refl, ap, sym, subst, arith, ◌+◌, ◌<◌, length, get_or, map, take, All, Contains}
-use Rattle.std.specs.List.{cons_option}
-use Rattle.std.specs.Option.{option_map}
-use Rattle.std.proofs.lemmas.Bool.{cases_lt}
-use Rattle.std.proofs.lemmas.Grind.{flat_map-append}
-use Rattle.std.proofs.lemmas.List.{append-nil}
+use Rattle.std.proofs.lemmas.{Bool.{cases_lt}, Grind.{flat_map-append}, List.{append-nil}}
 use Rattle.std.proofs.lemmas.List.Elements.{All-contains, Contains-append_cases, Contains-append_left, Contains-append_right, filter_map-append}
-use Rattle.rm_base.specs.Choice.{IsChoice}
-use Rattle.rm_base.proofs.Lists.{map_from, map_to, take_more}
-use Rattle.rm_base.proofs.Members.{in-front, none-in}
-use Rattle.rm_catalog.specs.Keys.{backups_in, part_piece, piece_in}
-use Rattle.rm_catalog.specs.declared.record.PieceEntry.{PieceEntry}
-use Rattle.rm_catalog.specs.declared.record.Record.{Record}
-use Rattle.rm_catalog.specs.declared.record.Record.TheVariants.{Piece}
-use Rattle.rm_catalog.specs.declared.record.SetEntry.{SetEntry}
-use Rattle.rm_catalog.specs.declared.record.SetPart.{SetPart}
+use Rattle.rm_base.{specs.Choice.{IsChoice}, proofs.{Lists.{map_from, map_to, take_more}, Members.{in-front, none-in}}}
+use Rattle.rm_catalog.specs.{Keys.{backups_in, part_piece, piece_in}, declared.record.{PieceEntry.{PieceEntry}, Record.{Record}}}
+use Rattle.rm_catalog.specs.declared.record.{Record.TheVariants.{Piece}, SetEntry.{SetEntry}, SetPart.{SetPart}}
 use Rattle.rm_evidence.proofs.Extending.{only-in}
-use Rattle.rm_backup.specs.Looking.{IsBefore, IsFirstOf, TellsFirst, told}
-use Rattle.rm_backup.specs.Parents.{among}
-use Rattle.rm_backup.specs.Records.{ComesFirst, pieces}
+use Rattle.rm_backup.specs.{Looking.{IsBefore, IsFirstOf, TellsFirst, told}, Parents.{among}, Records.{ComesFirst, pieces}}
 
 through : (x b y : PieceEntry) → ComesFirst x b → ComesFirst b y → ComesFirst x y
 through x b y (inl first) (inl second) = inl (omega (arith, first, second))

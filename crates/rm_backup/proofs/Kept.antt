@@ -1,13 +1,8 @@
 -- One record more among those that start above a checkpoint.
-use Rattle.std.proofs.Common.{◌≡◌, ◌∙◌, ℕ, List, Some, None, [], ◌∷◌, ◌++◌, refl, ap, sym, subst}
-use Rattle.std.proofs.lemmas.List.{map-append}
-use Rattle.rm_catalog.specs.Keys.{piece_in}
-use Rattle.rm_catalog.specs.declared.record.PieceEntry.{PieceEntry}
-use Rattle.rm_catalog.specs.declared.record.Record.{Record}
+use Rattle.std.proofs.{Common.{◌≡◌, ◌∙◌, ℕ, List, Some, None, [], ◌∷◌, ◌++◌, refl, ap, sym, subst}, lemmas.List.{map-append}}
+use Rattle.rm_catalog.specs.{Keys.{piece_in}, declared.record.{PieceEntry.{PieceEntry}, Record.{Record}}}
 use Rattle.rm_catalog.specs.declared.record.Record.TheVariants.{Base, Incarnation, Datafile, Log, Piece, Mark, Part, Head, Set, Switch}
-use Rattle.rm_backup.specs.Level1s.{AreKept, StartAbove, StartsAbove, of_none, takes, leaves}
-use Rattle.rm_backup.specs.Looking.{IsPassing}
-use Rattle.rm_backup.specs.Records.{pieces}
+use Rattle.rm_backup.specs.{Level1s.{AreKept, StartAbove, StartsAbove, of_none, takes, leaves}, Looking.{IsPassing}, Records.{pieces}}
 use Rattle.rm_backup.proofs.Choices.{pieces_more, pieces_none}
 
 module _ (f : ℕ) (tag : List ℕ) (k : ℕ) where

@@ -1,11 +1,7 @@
 -- The level 1s that an image copy takes over, one after another, and those that start above it.
 use Rattle.std.specs.Prelude.{ℕ, ◌≡◌, ◌<◌, ◌≤◌, ◌⊎◌, IsSomeAnd, Option, Some, None, List, [], ◌∷◌, ◌++◌, map}
-use Rattle.rm_base.specs.declared.kinds.Kind.TheVariants.{Level1}
-use Rattle.rm_base.specs.declared.kinds.Status.TheVariants.{Available}
-use Rattle.rm_base.specs.Choice.{IsChoice}
-use Rattle.rm_catalog.specs.declared.record.PieceEntry.{PieceEntry}
-use Rattle.rm_catalog.specs.declared.record.Record.{Record}
-use Rattle.rm_catalog.specs.Trees.{nodes}
+use Rattle.rm_base.specs.{Choice.{IsChoice}, declared.kinds.{Kind.TheVariants.{Level1}, Status.TheVariants.{Available}}}
+use Rattle.rm_catalog.specs.{Trees.{nodes}, declared.record.{PieceEntry.{PieceEntry}, Record.{Record}}}
 use Rattle.rm_merge.specs.Merge.{Meets, merged}
 use Rattle.rm_piece.specs.declared.piece.Piece.{Piece}
 use Rattle.rm_backup.specs.Records.{IsOnPath, piece, pieces}

@@ -1,10 +1,7 @@
 -- One record more is looked at.
-use Rattle.std.specs.Prelude.{◌≡◌, ◌<◌, ◌≤◌, ◌⊎◌, ℕ, Option, Some, None, List}
-use Rattle.std.specs.Option.{option_map}
+use Rattle.std.specs.{Prelude.{◌≡◌, ◌<◌, ◌≤◌, ◌⊎◌, ℕ, Option, Some, None, List}, Option.{option_map}}
 use Rattle.rm_base.specs.Choice.{IsChoice}
-use Rattle.rm_catalog.specs.declared.record.PieceEntry.{PieceEntry}
-use Rattle.rm_catalog.specs.declared.record.Record.{Record}
-use Rattle.rm_catalog.specs.declared.record.Record.TheVariants.{Piece}
+use Rattle.rm_catalog.specs.declared.record.{PieceEntry.{PieceEntry}, Record.{Record, TheVariants.{Piece}}}
 use Rattle.rm_backup.specs.Records.{ComesFirst}
 
 -- the record is one of a backup that passes, and this one; or it is none

@@ -1,12 +1,7 @@
 -- Which record is the parent of a level 1.
-use Rattle.std.specs.Prelude.{ℕ, ◌≡◌, Bool, true, false, Option, Some, None, List, Contains}
-use Rattle.std.specs.Option.{option_map}
-use Rattle.rm_base.specs.declared.kinds.Kind.{Kind}
-use Rattle.rm_base.specs.declared.kinds.Kind.TheVariants.{Full, Level0, Level1, Place}
-use Rattle.rm_base.specs.Choice.{IsChoice}
-use Rattle.rm_catalog.specs.declared.record.PieceEntry.{PieceEntry}
-use Rattle.rm_catalog.specs.declared.record.Record.{Record}
-use Rattle.rm_catalog.specs.Keys.{backups}
+use Rattle.std.specs.{Prelude.{ℕ, ◌≡◌, Bool, true, false, Option, Some, None, List, Contains}, Option.{option_map}}
+use Rattle.rm_base.specs.{Choice.{IsChoice}, declared.kinds.Kind.{Kind, TheVariants.{Full, Level0, Level1, Place}}}
+use Rattle.rm_catalog.specs.{Keys.{backups}, declared.record.{PieceEntry.{PieceEntry}, Record.{Record}}}
 use Rattle.rm_backup.specs.Records.{ComesFirst, IsOnPath, pieces}
 
 -- level 0, or level 1 where it need not be cumulative

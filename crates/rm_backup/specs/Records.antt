@@ -1,11 +1,7 @@
 -- The records of a datafile's backups, and which of them hold on the current path.
-use Rattle.std.specs.Prelude.{ℕ, ◌≡◌, ◌<◌, ◌≤◌, ◌⊎◌, IsTrue, Option, List, option_and_then}
-use Rattle.std.specs.List.{filter_map}
+use Rattle.std.specs.{Prelude.{ℕ, ◌≡◌, ◌<◌, ◌≤◌, ◌⊎◌, IsTrue, Option, List, option_and_then}, List.{filter_map}}
 use Rattle.rm_base.specs.declared.kinds.Status.TheVariants.{Available}
-use Rattle.rm_catalog.specs.declared.record.PieceEntry.{PieceEntry}
-use Rattle.rm_catalog.specs.declared.record.Record.{Record}
-use Rattle.rm_catalog.specs.Keys.{at, piece_in, place}
-use Rattle.rm_catalog.specs.Trees.{nodes}
+use Rattle.rm_catalog.specs.{Keys.{at, piece_in, place}, Trees.{nodes}, declared.record.{PieceEntry.{PieceEntry}, Record.{Record}}}
 use Rattle.rm_history.specs.Tree.{is_within}
 use Rattle.rm_evidence.specs.Database.{current_in}
 

@@ -1,14 +1,10 @@
 -- What RECOVER COPY makes of a datafile's image copy.
-use Rattle.std.specs.Prelude.{ℕ, ◌≡◌, ◌==◌, IfSome, IsSomeAnd, Option, Some, None, List, find}
-use Rattle.std.specs.Option.{option_map, option_map_or}
-use Rattle.rm_catalog.specs.declared.record.PieceEntry.{PieceEntry}
-use Rattle.rm_catalog.specs.declared.record.Record.{Record}
+use Rattle.std.specs.{Prelude.{ℕ, ◌≡◌, ◌==◌, IfSome, IsSomeAnd, Option, Some, None, List, find}, Option.{option_map, option_map_or}}
+use Rattle.rm_catalog.specs.declared.record.{PieceEntry.{PieceEntry}, Record.{Record}}
 use Rattle.rm_evidence.specs.declared.evidence.Evidence.{Evidence}
 use Rattle.rm_merge.specs.Merge.{merged}
 use Rattle.rm_piece.specs.declared.piece.Piece.{Piece}
-use Rattle.rm_backup.specs.declared.renewing.Renewed.{Renewed}
-use Rattle.rm_backup.specs.Level1s.{IsEnd, IsNext, StartAbove}
-use Rattle.rm_backup.specs.Taken.{IsTaken}
+use Rattle.rm_backup.specs.{Level1s.{IsEnd, IsNext, StartAbove}, Taken.{IsTaken}, declared.renewing.Renewed.{Renewed}}
 
 -- the copy of this id, if it is at hand
 abbrev pub copy_at : List (ℕ × Piece) → ℕ → Option Piece

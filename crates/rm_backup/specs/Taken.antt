@@ -1,8 +1,7 @@
 -- Which image copy takes over level 1s.
 use Rattle.std.specs.Prelude.{ℕ, ◌≡◌, true, Option, List}
 use Rattle.rm_base.specs.Choice.{IsChoice}
-use Rattle.rm_catalog.specs.declared.record.PieceEntry.{PieceEntry}
-use Rattle.rm_catalog.specs.declared.record.Record.{Record}
+use Rattle.rm_catalog.specs.declared.record.{PieceEntry.{PieceEntry}, Record.{Record}}
 use Rattle.rm_backup.specs.Records.{ComesFirst, IsOnPath, pieces}
 
 -- an image copy with the tag that may take over level 1s

@@ -1,11 +1,7 @@
 //! The image copies that take over level 1s.
-ghost use Rattle.std.specs.Prelude.{◌≡◌, ◌∷◌, [], Option};
-ghost use Rattle.std.specs.Option.{option_map};
-ghost use Rattle.rm_catalog.specs.declared.record.PieceEntry.{PieceEntry};
-ghost use Rattle.rm_catalog.specs.Rules.{HasDatabase};
-ghost use Rattle.rm_backup.specs.Looking.{TellsFirst};
-ghost use Rattle.rm_backup.specs.Records.{pieces};
-ghost use Rattle.rm_backup.specs.Taken.{IsTaken, MayBeTaken};
+ghost use Rattle.std.specs.{Prelude.{◌≡◌, ◌∷◌, [], Option}, Option.{option_map}};
+ghost use Rattle.rm_catalog.specs.{Rules.{HasDatabase}, declared.record.PieceEntry.{PieceEntry}};
+ghost use Rattle.rm_backup.specs.{Looking.{TellsFirst}, Records.{pieces}, Taken.{IsTaken, MayBeTaken}};
 
 use crate::records::{first_of, is_on_path};
 use rm_base::{FileNo, Scn};

@@ -1,27 +1,13 @@
 //! What a copy tells that took over level 1s, and what is at hand.
 ghost use Rattle.std.specs.Prelude.{ℕ, ◌≡◌, ◌≢◌, ◌↔◌, List, All, Contains, Some};
-ghost use Rattle.rm_base.specs.declared.block.Change.{Change};
-ghost use Rattle.rm_base.specs.declared.kinds.Kind.TheVariants.{Level1};
-ghost use Rattle.rm_base.specs.Store.{Held};
-ghost use Rattle.rm_catalog.specs.declared.record.PieceEntry.{PieceEntry};
-ghost use Rattle.rm_catalog.specs.declared.record.Record.{Record};
+ghost use Rattle.rm_base.specs.{Store.{Held}, declared.{block.Change.{Change}, kinds.Kind.TheVariants.{Level1}}};
+ghost use Rattle.rm_catalog.specs.{Rules.{IsCatalog}, Trees.{nodes}, declared.record.{PieceEntry.{PieceEntry}, Record.{Record}}};
 ghost use Rattle.rm_catalog.specs.declared.record.Record.TheVariants.{Piece as OfPiece};
-ghost use Rattle.rm_catalog.specs.Rules.{IsCatalog};
-ghost use Rattle.rm_catalog.specs.Trees.{nodes};
-ghost use Rattle.rm_evidence.specs.declared.evidence.Evidence.{Evidence};
-ghost use Rattle.rm_evidence.specs.declared.evidence.InPlace.{InPlace};
-ghost use Rattle.rm_evidence.specs.Available.{HasPieceObject};
-ghost use Rattle.rm_evidence.specs.Gathered.{IsGathered};
-ghost use Rattle.rm_evidence.specs.Known.{FitsPiece};
-ghost use Rattle.rm_history.specs.declared.world.World.{World};
-ghost use Rattle.rm_history.specs.Agrees.{BaseAgrees, Level1Agrees};
-ghost use Rattle.rm_history.specs.History.{IsHistory};
-ghost use Rattle.rm_history.specs.Tree.{IsTree};
-ghost use Rattle.rm_piece.specs.declared.piece.Piece.{Piece};
-ghost use Rattle.rm_piece.specs.Artefacts.{base_of, level1_of};
-ghost use Rattle.rm_piece.specs.Valid.{IsPiece};
-ghost use Rattle.rm_backup.specs.Level1s.{IsReached};
-ghost use Rattle.rm_backup.specs.Renewed.{copy_at};
+ghost use Rattle.rm_evidence.specs.{Available.{HasPieceObject}, Gathered.{IsGathered}, Known.{FitsPiece}};
+ghost use Rattle.rm_evidence.specs.declared.evidence.{Evidence.{Evidence}, InPlace.{InPlace}};
+ghost use Rattle.rm_history.specs.{Agrees.{BaseAgrees, Level1Agrees}, History.{IsHistory}, Tree.{IsTree}, declared.world.World.{World}};
+ghost use Rattle.rm_piece.specs.{Artefacts.{base_of, level1_of}, Valid.{IsPiece}, declared.piece.Piece.{Piece}};
+ghost use Rattle.rm_backup.specs.{Level1s.{IsReached}, Renewed.{copy_at}};
 
 /// However many level 1s a copy takes over, it is valid, and agrees with each history of the database that
 /// it and all of them agree with.

@@ -1,12 +1,9 @@
 //! The level 1s that an image copy takes over, and those that start above it.
-ghost use Rattle.std.specs.Prelude.{◌↔◌, All, IfOk, IsSomeAnd, IsTrue};
-ghost use Rattle.std.specs.Option.{option_copied};
-ghost use Rattle.rm_catalog.specs.Rules.{HasDatabase};
-ghost use Rattle.rm_catalog.specs.Trees.{nodes};
+ghost use Rattle.std.specs.{Prelude.{◌↔◌, All, IfOk, IsSomeAnd, IsTrue}, Option.{option_copied}};
+ghost use Rattle.rm_catalog.specs.{Rules.{HasDatabase}, Trees.{nodes}};
 ghost use Rattle.rm_evidence.specs.Known.{FitsPiece};
 ghost use Rattle.rm_history.specs.Tree.{IsThere};
-ghost use Rattle.rm_backup.specs.Level1s.{IsNext, MayBeMerged, MayBeNext, MergesFirst, StartAbove, StartsAbove};
-ghost use Rattle.rm_backup.specs.Looking.{IsPassing};
+ghost use Rattle.rm_backup.specs.{Level1s.{IsNext, MayBeMerged, MayBeNext, MergesFirst, StartAbove, StartsAbove}, Looking.{IsPassing}};
 ghost use Rattle.rm_backup.specs.Records.{piece as piece_of};
 
 use crate::records::{is_on_path, piece};

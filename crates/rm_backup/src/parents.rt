@@ -1,10 +1,7 @@
 //! The parents of level 1s.
-ghost use Rattle.std.specs.Prelude.{◌≡◌, ◌↔◌, ◌∷◌, [], false, map, IsSome, IsTrue};
-ghost use Rattle.std.specs.Option.{option_copied};
-ghost use Rattle.rm_catalog.specs.Keys.{part_piece};
-ghost use Rattle.rm_catalog.specs.Rules.{HasDatabase};
-ghost use Rattle.rm_backup.specs.Looking.{TellsFirst};
-ghost use Rattle.rm_backup.specs.Parents.{IsLevel, IsOfTag, IsParent, IsTagged, MayBeParent, among};
+ghost use Rattle.std.specs.{Prelude.{◌≡◌, ◌↔◌, ◌∷◌, [], false, map, IsSome, IsTrue}, Option.{option_copied}};
+ghost use Rattle.rm_catalog.specs.{Keys.{part_piece}, Rules.{HasDatabase}};
+ghost use Rattle.rm_backup.specs.{Looking.{TellsFirst}, Parents.{IsLevel, IsOfTag, IsParent, IsTagged, MayBeParent, among}};
 
 use crate::records::{first_of, is_on_path};
 use rm_base::{FileNo, Kind, Scn, Status};

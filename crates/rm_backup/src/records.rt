@@ -1,9 +1,7 @@
 //! The records of a datafile's backups.
-ghost use Rattle.std.specs.Prelude.{◌≡◌, ◌↔◌, IsTrue};
-ghost use Rattle.std.specs.Option.{option_copied};
+ghost use Rattle.std.specs.{Prelude.{◌≡◌, ◌↔◌, IsTrue}, Option.{option_copied}};
 ghost use Rattle.rm_catalog.specs.Rules.{HasDatabase};
-ghost use Rattle.rm_backup.specs.Looking.{IsBefore, IsFirstOf};
-ghost use Rattle.rm_backup.specs.Records.{IsOnPath, piece as piece_of};
+ghost use Rattle.rm_backup.specs.{Looking.{IsBefore, IsFirstOf}, Records.{IsOnPath, piece as piece_of}};
 
 use rm_base::{FileNo, Scn, Status};
 use rm_catalog::{Catalog, Key, PieceEntry, Record};

@@ -1,13 +1,9 @@
 //! What RECOVER COPY makes of a datafile's image copy.
-ghost use Rattle.std.specs.Prelude.{◌≡◌, ◌≤◌, All, IfNone, IfOk, IfSome, None};
-ghost use Rattle.std.specs.Option.{option_copied, option_map_or};
-ghost use Rattle.rm_catalog.specs.Rules.{HasDatabase};
-ghost use Rattle.rm_catalog.specs.Trees.{nodes};
+ghost use Rattle.std.specs.{Prelude.{◌≡◌, ◌≤◌, All, IfNone, IfOk, IfSome, None}, Option.{option_copied, option_map_or}};
+ghost use Rattle.rm_catalog.specs.{Rules.{HasDatabase}, Trees.{nodes}};
 ghost use Rattle.rm_evidence.specs.Known.{FitsPiece, FitsTree};
 ghost use Rattle.rm_piece.specs.Valid.{IsPiece};
-ghost use Rattle.rm_backup.specs.Level1s.{IsEnd};
-ghost use Rattle.rm_backup.specs.Renewed.{IsMerged, IsRenewed, copy_at as copy_of};
-ghost use Rattle.rm_backup.specs.Taken.{IsTaken};
+ghost use Rattle.rm_backup.specs.{Level1s.{IsEnd}, Renewed.{IsMerged, IsRenewed, copy_at as copy_of}, Taken.{IsTaken}};
 
 use crate::copies::last_copy;
 use crate::level1s::{next_level1, start_above};

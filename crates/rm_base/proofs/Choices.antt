@@ -1,7 +1,6 @@
 -- The first of the items that pass, where one item more is looked at.
 use Rattle.std.proofs.Common.{inl, inr, List, Option, Some, None, [], ◌∷◌, ◌++◌, sym, subst}
-use Rattle.rm_base.specs.Choice.{IsChoice}
-use Rattle.rm_base.proofs.Lists.{in_front_part, at_end, front_or_end}
+use Rattle.rm_base.{specs.Choice.{IsChoice}, proofs.Lists.{in_front_part, at_end, front_or_end}}
 
 module _ {X : Type 0} (P : X → Type 0) (R : X → X → Type 0) where
   -- one that does not pass changes nothing

@@ -1,6 +1,6 @@
 -- Lists of items with the same number of bytes each, and lists that ascend.
-use Rattle.std.proofs.Common.{◌≡◌, ◌+◌, ◌-◌, ◌*◌, ◌<◌, ℕ, zero, suc, List, [], ◌∷◌, ◌++◌, length, get_or, All, refl, subst, arith}
 use Rattle.std.specs.List.{flat_map, AllPairs, AllAdjacentBelow}
+use Rattle.std.proofs.Common.{◌≡◌, ◌+◌, ◌-◌, ◌*◌, ◌<◌, ℕ, zero, suc, List, [], ◌∷◌, ◌++◌, length, get_or, All, refl, subst, arith}
 use Rattle.std.proofs.lemmas.List.{length-append}
 
 pub All-tail : {A : Type 0} (P : A → Type 0) (x : A) (xs : List A) → All P (x ∷ xs) → All P xs

@@ -1,6 +1,5 @@
 -- Items that ascend by a number.
-use Rattle.std.proofs.Common.{◌≡◌, ◌<◌, ◌∙◌, inl, inr, ℕ, List, ap, sym, arith, get_or, Contains, AllPairs}
-use Rattle.std.proofs.lemmas.Bool.{cases_lt}
+use Rattle.std.proofs.{Common.{◌≡◌, ◌<◌, ◌∙◌, inl, inr, ℕ, List, ap, sym, arith, get_or, Contains, AllPairs}, lemmas.Bool.{cases_lt}}
 use Rattle.std.proofs.lemmas.List.{get_or_default}
 
 -- there is one at most of each number

@@ -1,10 +1,8 @@
 -- Items of lists that are filtered, mapped, searched and read from the front.
-use Rattle.std.proofs.Common.{◌≡◌, ◌∙◌, ◌⊎◌, ◌<◌, ◌+◌, inl, inr, ℕ, suc, List, [], ◌∷◌, ◌++◌, Bool, true, false, cond, Some, None, refl, ap, sym, subst, arith, filter, map, find, length, take, get_or, Contains}
 use Rattle.std.specs.List.{list_any}
-use Rattle.std.proofs.lemmas.Bool.{cases_Bool}
-use Rattle.std.proofs.lemmas.List.Elements.{All-contains, All-contains_itself, All-filter, filter_passes}
-use Rattle.std.proofs.lemmas.List.Folds.{Any-from_list_any, list_any-from_Any}
-use Rattle.std.proofs.Math.Seq.{take-suc}
+use Rattle.std.proofs.Common.{◌≡◌, ◌∙◌, ◌⊎◌, ◌<◌, ◌+◌, inl, inr, ℕ, suc, List, [], ◌∷◌, ◌++◌, Bool, true, false, cond, Some, None, refl, ap, sym, subst, arith, filter, map, find, length, take, get_or, Contains}
+use Rattle.std.proofs.lemmas.{Bool.{cases_Bool}, List.Elements.{All-contains, All-contains_itself, All-filter, filter_passes}}
+use Rattle.std.proofs.{lemmas.List.Folds.{Any-from_list_any, list_any-from_Any}, Math.Seq.{take-suc}}
 use Rattle.rm_base.proofs.Members.{in-front, behind, none-in, first-or-rest}
 
 -- what a filter keeps was there, and passes

@@ -1,8 +1,6 @@
 -- Members of lists.
 use Rattle.std.proofs.Common.{◌≡◌, ◌<◌, ◌⊎◌, ◌∙◌, inl, inr, ℕ, zero, suc, List, [], ◌∷◌, ◌++◌, refl, subst, arith, length, length-append, slice_get, slice_index_or, Contains, AllPairs}
-use Rattle.std.proofs.lemmas.List.{get_or_append_left}
-use Rattle.std.proofs.Math.Seq.{get_or-append_seam}
-use Rattle.std.proofs.lemmas.List.Elements.{Contains-append_right}
+use Rattle.std.proofs.{lemmas.List.{get_or_append_left, Elements.{Contains-append_right}}, Math.Seq.{get_or-append_seam}}
 
 pub in-front : {X : Type 0} (x : X) (xs : List X) → Contains (x ∷ xs) x
 in-front x xs = (0, omega arith, refl)

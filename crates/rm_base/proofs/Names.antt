@@ -1,18 +1,10 @@
 -- The names of the objects in memory.
+use Rattle.std.specs.{Prelude.{◌↔◌, Contains, IsSome, String}, List.{AllByRecursion, Sorted.{IsStrictlySortedBy}}}
+use Rattle.std.specs.{Cmp.Lexicographic.{slice_cmp}, Ordering.{nat_cmp, is_eq}, String.{string_bytes, string_cmp}, Map.{keys_of, lookup}}
+use Rattle.std.specs.{Map.Iter.{deref}, BTreeMap.{is_at}, declared.cmp.Ordering.TheVariants.{Less}}
 use Rattle.std.proofs.Common.{◌≡◌, refl, sym, subst, ◌∙◌, ap, arith, ℕ, Bool, true, false, cond, List, [], ◌∷◌, Option, Some, map, inl, inr}
-use Rattle.std.specs.Prelude.{◌↔◌, Contains, IsSome, String}
-use Rattle.std.specs.List.{AllByRecursion}
-use Rattle.std.specs.List.Sorted.{IsStrictlySortedBy}
-use Rattle.std.specs.Cmp.Lexicographic.{slice_cmp}
-use Rattle.std.specs.Ordering.{nat_cmp, is_eq}
-use Rattle.std.specs.declared.cmp.Ordering.TheVariants.{Less}
-use Rattle.std.specs.String.{string_bytes, string_cmp}
-use Rattle.std.specs.Map.{keys_of, lookup}
-use Rattle.std.specs.Map.Iter.{deref}
-use Rattle.std.specs.BTreeMap.{is_at}
 use Rattle.std.proofs.lemmas.List.Elements.{Contains-append_left, Contains-append_right, Contains-append_cases, Contains-push, Contains-push_cases}
-use Rattle.std.proofs.lemmas.Map.Text.{is_eq-slice_cmp}
-use Rattle.std.proofs.lemmas.Slice.Eq.{bytes_eq-Decides}
+use Rattle.std.proofs.lemmas.{Map.Text.{is_eq-slice_cmp}, Slice.Eq.{bytes_eq-Decides}}
 use Rattle.rm_base.specs.Store.{Ascends}
 use denote.Ref.{Bor}
 

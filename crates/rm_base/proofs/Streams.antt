@@ -1,7 +1,7 @@
 -- Bytes that are taken or written after others, and counts that rise.
+use Rattle.std.specs.Option.{option_map}
 use Rattle.std.proofs.Common.{◌≡◌, ◌≤◌, ◌+◌, ◌-◌, ◌∙◌, ◌++◌, ℕ, List, [], ◌∷◌, Option, Some, None, refl, ap, sym, append_assoc, arith, IfSome, length, take, drop, length-drop}
 use Rattle.std.proofs.lemmas.List.{take-append-drop, drop-drop, take_at, length-take-le}
-use Rattle.std.specs.Option.{option_map}
 use Rattle.rm_base.specs.Outside.{Appends, HasTaken, Rose}
 
 append-none : (xs : List ℕ) → xs ++ [] ≡ xs

@@ -1,7 +1,6 @@
 -- A block as its datafile was created.
 use Rattle.std.specs.Prelude.{ℕ}
-use Rattle.rm_base.specs.Content.{zero_block}
-use Rattle.rm_base.specs.declared.block.Row.{Row}
+use Rattle.rm_base.specs.{Content.{zero_block}, declared.block.Row.{Row}}
 
 -- the row of block b: zero bytes, at the creation
 abbrev pub created_row : ℕ → ℕ → Row

@@ -1,8 +1,6 @@
 -- A sink in memory.
 use Rattle.std.specs.Prelude.{ℕ, ◌-◌, ◌<◌, ◌≡◌, ◌⊎◌, List, length, min}
-use Rattle.rm_base.specs.declared.memory.Failing.{Failing}
-use Rattle.rm_base.specs.declared.memory.MemSink.{MemSink}
-use Rattle.rm_base.specs.Failing.{FailsNext}
+use Rattle.rm_base.specs.{Failing.{FailsNext}, declared.memory.{Failing.{Failing}, MemSink.{MemSink}}}
 
 -- what was written
 abbrev pub written_to : MemSink → List ℕ

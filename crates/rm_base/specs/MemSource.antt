@@ -1,7 +1,6 @@
 -- A source in memory.
 use Rattle.std.specs.Prelude.{ℕ, List, drop, length, min}
-use Rattle.rm_base.specs.declared.memory.Failing.{Failing}
-use Rattle.rm_base.specs.declared.memory.MemSource.{MemSource}
+use Rattle.rm_base.specs.declared.memory.{Failing.{Failing}, MemSource.{MemSource}}
 
 -- what is left to be read
 abbrev pub left_of : MemSource → List ℕ

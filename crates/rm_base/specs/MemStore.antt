@@ -1,12 +1,7 @@
 -- A store and a clock in memory.
-use Rattle.std.specs.Prelude.{◌≡◌, ◌↔◌, ◌+◌, ◌/◌, ℕ, zero, suc, Bool, IsTrue, List, [], ◌∷◌, drop, length, take}
-use Rattle.std.specs.BTreeMap.{get_by_text}
-use Rattle.rm_base.specs.declared.memory.Failing.{Failing}
-use Rattle.rm_base.specs.declared.mem_store.StoreFailing.{StoreFailing}
-use Rattle.rm_base.specs.declared.mem_store.MemStore.{MemStore}
-use Rattle.rm_base.specs.declared.mem_store.MemClock.{MemClock}
-use Rattle.rm_base.specs.Failing.{faults_of, FailsNext, after_call}
-use Rattle.rm_base.specs.Store.{Held, Answers}
+use Rattle.std.specs.{Prelude.{◌≡◌, ◌↔◌, ◌+◌, ◌/◌, ℕ, zero, suc, Bool, IsTrue, List, [], ◌∷◌, drop, length, take}, BTreeMap.{get_by_text}}
+use Rattle.rm_base.specs.{Failing.{faults_of, FailsNext, after_call}, Store.{Held, Answers}, declared.memory.Failing.{Failing}}
+use Rattle.rm_base.specs.declared.mem_store.{StoreFailing.{StoreFailing}, MemStore.{MemStore}, MemClock.{MemClock}}
 
 -- the bytes under each name
 abbrev pub held_by : MemStore → Held

@@ -1,6 +1,5 @@
 -- What a read takes, what a write adds, and when a count rose.
-use Rattle.std.specs.Prelude.{ℕ, ◌+◌, ◌<◌, ◌≡◌, ◌↔◌, ◌^◌, Bool, IsTrue, List, [], ◌++◌, Option, IfSome}
-use Rattle.std.specs.Option.{option_map}
+use Rattle.std.specs.{Prelude.{ℕ, ◌+◌, ◌<◌, ◌≡◌, ◌↔◌, ◌^◌, Bool, IsTrue, List, [], ◌++◌, Option, IfSome}, Option.{option_map}}
 
 -- Where the source tells what is left: it was these bytes, and what is left now. One that tells nothing goes on so.
 abbrev pub HasTaken : Option (List ℕ) → Option (List ℕ) → List ℕ → Type 0

@@ -1,8 +1,6 @@
 -- What a store holds, and the answers of a clock to come, where they are told.
-use Rattle.std.specs.Prelude.{◌≡◌, ◌≢◌, ◌↔◌, ◌+◌, ℕ, List, Contains, Option, Some, None, IsSome}
-use Rattle.std.specs.Cmp.Lexicographic.{slice_cmp}
-use Rattle.std.specs.List.Sorted.{IsStrictlySortedBy}
-use Rattle.std.specs.Ordering.{nat_cmp}
+use Rattle.std.specs.{Prelude.{◌≡◌, ◌≢◌, ◌↔◌, ◌+◌, ℕ, List, Contains, Option, Some, None, IsSome}, Cmp.Lexicographic.{slice_cmp}}
+use Rattle.std.specs.{List.Sorted.{IsStrictlySortedBy}, Ordering.{nat_cmp}}
 
 -- the bytes under each name
 abbrev pub Held : Type 0

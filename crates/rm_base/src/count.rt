@@ -1,6 +1,5 @@
 //! How often something has happened.
-ghost use Rattle.std.specs.Prelude.{◌≡◌, ◌+◌, ℕ};
-ghost use Rattle.std.specs.Borrow.{ftrue};
+ghost use Rattle.std.specs.{Prelude.{◌≡◌, ◌+◌, ℕ}, Borrow.{ftrue}};
 
 use std::marker::Model;
 

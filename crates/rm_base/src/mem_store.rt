@@ -28,9 +28,8 @@ pub struct MemStore {
 
 impl MemStore {
     ghost use Rattle.std.specs.Prelude.{List, ℕ, Some, None, OnOk, OnErr, IfErr};
+    ghost use Rattle.rm_base.specs.{Store.{SameBut}, MemStore.{held_by, failing_of}};
     ghost use Rattle.rm_base.specs.declared.store.StoreFail.TheVariants.{NoMemory as WithoutMemory};
-    ghost use Rattle.rm_base.specs.Store.{SameBut};
-    ghost use Rattle.rm_base.specs.MemStore.{held_by, failing_of};
 
     /// A store that holds nothing.
     pub fn new(alloc: Global, failing: StoreFailing) -> Self
@@ -61,11 +60,9 @@ impl MemStore {
 
 impl Store for MemStore {
     ghost use Rattle.std.specs.Prelude.{Some, None, IfOk, IfSome, OnOk, OnErr, IsErrOf};
-    ghost use Rattle.rm_base.specs.declared.store.StoreFail.TheVariants.{Failed, NoMemory as WithoutMemory};
-    ghost use Rattle.rm_base.specs.Outside.{Rose};
-    ghost use Rattle.rm_base.specs.Failing.{FailsNext};
-    ghost use Rattle.rm_base.specs.Store.{Both, HasNow, SameBut, Ascends, AreTheNames};
+    ghost use Rattle.rm_base.specs.{Outside.{Rose}, Failing.{FailsNext}, Store.{Both, HasNow, SameBut, Ascends, AreTheNames}};
     ghost use Rattle.rm_base.specs.MemStore.{held_by, failing_of, faults_of_all, half, IsAfterCall};
+    ghost use Rattle.rm_base.specs.declared.store.StoreFail.TheVariants.{Failed, NoMemory as WithoutMemory};
 
     ghost held = { λ m. Some (held_by m) };
 
@@ -189,8 +186,7 @@ impl MemClock {
 
 impl Clock for MemClock {
     ghost use Rattle.std.specs.Prelude.{Some, IfSome};
-    ghost use Rattle.rm_base.specs.Store.{Both, IsLater};
-    ghost use Rattle.rm_base.specs.MemStore.{coming_of};
+    ghost use Rattle.rm_base.specs.{Store.{Both, IsLater}, MemStore.{coming_of}};
 
     ghost answers = { λ m. Some (coming_of m) };
 

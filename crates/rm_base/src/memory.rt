@@ -1,6 +1,5 @@
 //! A source and a sink in memory, whose calls fail as their maker says.
-ghost use Rattle.std.specs.Prelude.{◌≡◌, ◌↔◌, ◌<◌, ◌≤◌, [], length, IsTrue};
-ghost use Rattle.std.specs.Vec.{vec_capacity};
+ghost use Rattle.std.specs.{Prelude.{◌≡◌, ◌↔◌, ◌<◌, ◌≤◌, [], length, IsTrue}, Vec.{vec_capacity}};
 
 use crate::count::Count;
 use crate::faults::{Failed, NoMemory};
@@ -89,8 +88,7 @@ impl MemSource {
 
 impl Source for MemSource {
     ghost use Rattle.std.specs.Prelude.{Some, IfOk, OnOk, OnErr, IsErr, is_err, take, true, false};
-    ghost use Rattle.rm_base.specs.Outside.{HasTaken, Counts, EndsAt, Rose};
-    ghost use Rattle.rm_base.specs.MemSource.{left_of, most_of, failing_of, takes};
+    ghost use Rattle.rm_base.specs.{Outside.{HasTaken, Counts, EndsAt, Rose}, MemSource.{left_of, most_of, failing_of, takes}};
     ghost use Rattle.rm_base.specs.Failing.{faults_of, FailsNext, after_call};
 
     ghost left = { λ m. Some (left_of m) };
@@ -177,8 +175,7 @@ impl MemSink {
 
 impl Sink for MemSink {
     ghost use Rattle.std.specs.Prelude.{Some, IfOk, OnErr, IsErr, take};
-    ghost use Rattle.rm_base.specs.Outside.{Appends, Rose};
-    ghost use Rattle.rm_base.specs.MemSink.{written_to, room_of, most_of, failing_of, Fails, adds};
+    ghost use Rattle.rm_base.specs.{Outside.{Appends, Rose}, MemSink.{written_to, room_of, most_of, failing_of, Fails, adds}};
     ghost use Rattle.rm_base.specs.Failing.{faults_of, numbers_of, calls_of, next};
 
     ghost contents = { λ m. Some (written_to m) };

@@ -1,7 +1,6 @@
 //! What the program keeps objects in, and the clock. A store counts its faults, and the count never falls.
 ghost use Rattle.std.specs.Prelude.{◌≡◌, ◌+◌, ◌≤◌, ℕ, Option, Some, None, IfOk, IfSome, OnOk, IsErrOf};
-ghost use Rattle.rm_base.specs.Outside.{Rose};
-ghost use Rattle.rm_base.specs.Store.{Held, Both, HasNow, SameBut, Ascends, AreTheNames, Answers, IsLater};
+ghost use Rattle.rm_base.specs.{Outside.{Rose}, Store.{Held, Both, HasNow, SameBut, Ascends, AreTheNames, Answers, IsLater}};
 ghost use Rattle.rm_base.specs.declared.store.StoreFail.TheVariants.{Failed};
 
 use crate::seq::Seq;

@@ -1,8 +1,6 @@
 //! A text, which contracts see as the list of its bytes.
-ghost use Rattle.std.specs.Prelude.{◌≡◌, ◌<◌, [], All, IfOk, nat_eq};
-ghost use Rattle.std.specs.Cmp.Lexicographic.{pointwise, nat_list_eq_equiv};
-ghost use Rattle.std.specs.Cmp.{partial_equiv_from_equiv};
-ghost use Rattle.std.specs.String.{string_bytes};
+ghost use Rattle.std.specs.{Prelude.{◌≡◌, ◌<◌, [], All, IfOk, nat_eq}, Cmp.Lexicographic.{pointwise, nat_list_eq_equiv}};
+ghost use Rattle.std.specs.{Cmp.{partial_equiv_from_equiv}, String.{string_bytes}};
 
 use crate::faults::NoMemory;
 use std::alloc::Global;
@@ -15,8 +13,7 @@ pub struct Text {
 }
 
 impl Model for Text {
-    ghost use Rattle.std.specs.Prelude.{List, ℕ};
-    ghost use Rattle.std.specs.String.{string_bytes};
+    ghost use Rattle.std.specs.{Prelude.{List, ℕ}, String.{string_bytes}};
 
     ghost Value = { List ℕ };
 

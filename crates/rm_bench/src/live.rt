@@ -1,8 +1,7 @@
 //! Turns of a live database, on so many threads at once, beside a plain lock round the same datafile.
 ghost use Rattle.std.specs.Prelude.{◌≡◌, ◌≤◌, ◌∷◌, [], IfOk, length};
 ghost use Rattle.rm_blocks.specs.File.{created};
-ghost use Rattle.rm_live.specs.Parts.{IsNumbered, IsSound, parts_of};
-ghost use Rattle.rm_live.specs.Ruled.{upto};
+ghost use Rattle.rm_live.specs.{Parts.{IsNumbered, IsSound, parts_of}, Ruled.{upto}};
 
 use crate::format::Shortest;
 use rm_base::{BlockNo, NoMemory, Row};

@@ -1,17 +1,10 @@
 -- What a datafile as it was created says of a history.
-use Rattle.std.proofs.Common.{◌≡◌, ◌+◌, ℕ, zero, suc, List, Some, inr, refl, ap, subst, arith, true, All, Contains}
 use Rattle.std.specs.Option.{option_map_or}
+use Rattle.std.proofs.Common.{◌≡◌, ◌+◌, ℕ, zero, suc, List, Some, inr, refl, ap, subst, arith, true, All, Contains}
 use Rattle.std.proofs.lemmas.List.Elements.{All-nil, All-push, All-contains}
-use Rattle.rm_base.specs.Created.{created_row}
-use Rattle.rm_base.specs.declared.block.Change.{Change}
-use Rattle.rm_base.specs.declared.block.Row.{Row}
-use Rattle.rm_history.specs.declared.world.Datafile.{Datafile}
-use Rattle.rm_history.specs.declared.world.World.{World}
-use Rattle.rm_history.specs.Agrees.{BaseAgrees, IsRow}
-use Rattle.rm_history.specs.History.{IsHistory}
-use Rattle.rm_history.specs.State.{IsState, concerns}
-use Rattle.rm_history.specs.World.{file_of, creation_of}
-use Rattle.rm_history.proofs.States.{concerns-parts, concerns-risen, state-one}
+use Rattle.rm_base.specs.{Created.{created_row}, declared.block.{Change.{Change}, Row.{Row}}}
+use Rattle.rm_history.specs.{Agrees.{BaseAgrees, IsRow}, History.{IsHistory}, State.{IsState, concerns}, World.{file_of, creation_of}}
+use Rattle.rm_history.{specs.declared.world.{Datafile.{Datafile}, World.{World}}, proofs.States.{concerns-parts, concerns-risen, state-one}}
 use Rattle.rm_blocks.specs.File.{base_of, created, created_rows}
 
 created-all : (P : Row → Type 0) (creation blocks : ℕ) → ((b : ℕ) → P (created_row creation b)) → All P (created_rows creation blocks)

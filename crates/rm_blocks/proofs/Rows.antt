@@ -1,9 +1,7 @@
 -- Rows in order, and what keeps them so.
 use Rattle.std.proofs.Common.{◌≡◌, ◌≢◌, ◌∙◌, ℕ, zero, suc, List, [], ◌∷◌, ◌++◌, ◌⊎◌, inl, inr, Some, refl, ap, sym, subst, arith, length, slice_get, slice_set}
-use Rattle.std.proofs.lemmas.Bool.{cases_eq}
-use Rattle.std.proofs.lemmas.List.{length-append}
-use Rattle.rm_base.specs.Created.{created_row}
-use Rattle.rm_base.specs.declared.block.Row.{Row}
+use Rattle.std.proofs.lemmas.{Bool.{cases_eq}, List.{length-append}}
+use Rattle.rm_base.specs.{Created.{created_row}, declared.block.Row.{Row}}
 use Rattle.rm_blocks.specs.File.{IsInOrder, created_rows}
 
 slice_get-set_same : (rows : List Row) (k : ℕ) (new r : Row) → slice_get (slice_set rows k new) k ≡ Some r → new ≡ r

@@ -1,21 +1,14 @@
 -- Records that ascend, each key once: edits keep that, and there is one order of them.
-use Rattle.std.proofs.Common.{◌≡◌, ℕ, zero, suc, ◌+◌, ◌-◌, ◌<◌, ◌≤◌, Bool, ltb, cond, List, [], ◌∷◌, ◌++◌, length, get_or, refl, ap, sym, ◌∙◌, arith, eq-eqb, inl, inr, All}
 use Rattle.std.specs.Prelude.{Contains, IsPermutation}
+use Rattle.std.proofs.Common.{◌≡◌, ℕ, zero, suc, ◌+◌, ◌-◌, ◌<◌, ◌≤◌, Bool, ltb, cond, List, [], ◌∷◌, ◌++◌, length, get_or, refl, ap, sym, ◌∙◌, arith, eq-eqb, inl, inr, All}
 use Rattle.std.proofs.lemmas.Bool.{cases_lt, cases_eq}
 use Rattle.std.proofs.lemmas.List.{get_or_default, get_or_at, get_or-append-add, length-append, get_or_append_left, get_or-append_right}
-use Rattle.std.proofs.lemmas.List.Elements.{All-contains}
-use Rattle.std.proofs.lemmas.List.Kept.{AllPairs-filter}
+use Rattle.std.proofs.lemmas.List.{Elements.{All-contains}, Kept.{AllPairs-filter}}
 use Rattle.std.proofs.lemmas.List.Sorted.{IsPermutation-sym, IsPermutation-trans, Contains-permutation}
-use Rattle.rm_catalog.specs.declared.record.Record.{Record}
-use Rattle.rm_catalog.specs.declared.record.Edit.{Edit}
-use Rattle.rm_catalog.specs.declared.record.Edit.TheVariants.{Put, Drop}
-use Rattle.rm_catalog.specs.Keys.{place_of, place_of_key, Ascends, InOrder}
-use Rattle.rm_catalog.specs.Rules.{IsOrderOf}
-use Rattle.rm_catalog.specs.Edits.{below, above, after_edit, after_edits}
-use Rattle.rm_catalog.proofs.Counts.{alike}
-use Rattle.rm_catalog.proofs.Found.{differ}
-use Rattle.rm_catalog.proofs.Filters.{below_low, above_high}
-use Rattle.rm_catalog.proofs.Unique.{Rises, rises_of, rises_same, once_moves, head_or_tail}
+use Rattle.rm_catalog.specs.{Keys.{place_of, place_of_key, Ascends, InOrder}, Rules.{IsOrderOf}}
+use Rattle.rm_catalog.specs.{Edits.{below, above, after_edit, after_edits}, declared.record.{Record.{Record}, Edit.{Edit}}}
+use Rattle.rm_catalog.{specs.declared.record.Edit.TheVariants.{Put, Drop}, proofs.{Counts.{alike}, Found.{differ}}}
+use Rattle.rm_catalog.proofs.{Filters.{below_low, above_high}, Unique.{Rises, rises_of, rises_same, once_moves, head_or_tail}}
 
 -- what ascends is in order
 pub in_order_of : (rs : List Record) → Ascends rs → InOrder rs

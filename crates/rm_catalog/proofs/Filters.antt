@@ -1,14 +1,10 @@
 -- Records below and above a place, and edits at different places.
-use Rattle.std.proofs.Common.{◌≡◌, ℕ, suc, ◌<◌, ◌≤◌, Bool, true, false, ltb, cond, List, [], ◌∷◌, ◌++◌, get_or, refl, ap, sym, subst, ◌∙◌, arith, inl, inr, All}
 use Rattle.std.specs.List.{filter}
-use Rattle.std.proofs.lemmas.Bool.{lt-ltb, le-ltb, cases_lt}
-use Rattle.std.proofs.lemmas.List.{append-nil, append_assoc}
+use Rattle.std.proofs.Common.{◌≡◌, ℕ, suc, ◌<◌, ◌≤◌, Bool, true, false, ltb, cond, List, [], ◌∷◌, ◌++◌, get_or, refl, ap, sym, subst, ◌∙◌, arith, inl, inr, All}
+use Rattle.std.proofs.lemmas.{Bool.{lt-ltb, le-ltb, cases_lt}, List.{append-nil, append_assoc}}
 use Rattle.std.proofs.lemmas.List.Elements.{All-nil, All-cons, All-append, filter-append, filter_agree}
-use Rattle.rm_catalog.specs.declared.record.Record.{Record}
-use Rattle.rm_catalog.specs.declared.record.Edit.{Edit}
-use Rattle.rm_catalog.specs.declared.record.Edit.TheVariants.{Put, Drop}
-use Rattle.rm_catalog.specs.Keys.{place_of, place_of_key}
-use Rattle.rm_catalog.specs.Edits.{below, above, place_of_edit, after_edit, after_edits}
+use Rattle.rm_catalog.specs.{Keys.{place_of, place_of_key}, Edits.{below, above, place_of_edit, after_edit, after_edits}}
+use Rattle.rm_catalog.specs.declared.record.{Record.{Record}, Edit.{Edit, TheVariants.{Put, Drop}}}
 
 -- a filter whose test each element passes keeps all, and one whose test none passes keeps none
 pub filter_all : {X : Type 0} (p : X → Bool) (xs : List X) → All (λ x. p x ≡ true) xs → filter p xs ≡ xs

@@ -1,14 +1,9 @@
 -- What an edit leaves at each place.
 use Rattle.std.proofs.Common.{◌≡◌, ℕ, suc, ◌<◌, ◌≤◌, Bool, eqb, cond, List, [], ◌∷◌, ◌++◌, Some, None, refl, ap, sym, ◌∙◌, arith, eq-eqb, inl, inr, All}
 use Rattle.std.proofs.lemmas.Bool.{cases_lt, cases_eq, lt-ltb, le-ltb}
-use Rattle.rm_catalog.specs.declared.record.Record.{Record}
-use Rattle.rm_catalog.specs.declared.record.Edit.{Edit}
-use Rattle.rm_catalog.specs.declared.record.Edit.TheVariants.{Put, Drop}
-use Rattle.rm_catalog.specs.Keys.{place_of, place_of_key, at}
-use Rattle.rm_catalog.specs.Edits.{below, above, place_of_edit, put_by, after_edit}
-use Rattle.rm_catalog.proofs.Found.{differ}
-use Rattle.rm_catalog.proofs.Filters.{below_low, above_high}
-use Rattle.rm_catalog.proofs.Told.{at_here, at_past}
+use Rattle.rm_catalog.specs.{Keys.{place_of, place_of_key, at}, Edits.{below, above, place_of_edit, put_by, after_edit}}
+use Rattle.rm_catalog.{specs.declared.record.{Record.{Record}, Edit.{Edit, TheVariants.{Put, Drop}}}, proofs.Found.{differ}}
+use Rattle.rm_catalog.proofs.{Filters.{below_low, above_high}, Told.{at_here, at_past}}
 
 at_none : (p : ℕ) (rs : List Record) → All (λ r. ¬ (place_of r ≡ p)) rs → at p rs ≡ None
 at_none p [] all = refl

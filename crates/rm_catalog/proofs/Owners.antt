@@ -1,11 +1,8 @@
 -- One step up a path.
-use Rattle.std.proofs.Common.{◌≡◌, ℕ, suc, ◌+◌, ◌-◌, ◌<◌, ◌≤◌, Bool, true, false, leb, cond, List, Option, Some, None, ap, sym, ◌∙◌, arith}
 use Rattle.std.specs.Option.{option_map_or}
+use Rattle.std.proofs.Common.{◌≡◌, ℕ, suc, ◌+◌, ◌-◌, ◌<◌, ◌≤◌, Bool, true, false, leb, cond, List, Option, Some, None, ap, sym, ◌∙◌, arith}
 use Rattle.std.proofs.lemmas.Bool.Decides.{nat_tests}
-use Rattle.rm_catalog.specs.declared.record.Record.{Record}
-use Rattle.rm_catalog.specs.declared.record.IncarnationEntry.{IncarnationEntry}
-use Rattle.rm_catalog.specs.Keys.{incarnation}
-use Rattle.rm_catalog.specs.Objects.{owner_in}
+use Rattle.rm_catalog.specs.{Keys.{incarnation}, Objects.{owner_in}, declared.record.{Record.{Record}, IncarnationEntry.{IncarnationEntry}}}
 
 is_le : (m n : ℕ) → m ≤ n → leb m n ≡ true
 is_le m n h = grind (arith, nat_tests)

@@ -1,19 +1,13 @@
 -- One pass over records and edits.
+use Rattle.std.specs.{Prelude.{Contains}, List.{filter}}
 use Rattle.std.proofs.Common.{◌≡◌, ℕ, zero, suc, ◌+◌, ◌-◌, ◌<◌, ◌≤◌, Bool, ltb, List, [], ◌∷◌, ◌++◌, length, get_or, take, drop, refl, ap, sym, subst, ◌∙◌, arith, ◌⊎◌, inl, inr, All}
-use Rattle.std.specs.Prelude.{Contains}
-use Rattle.std.specs.List.{filter}
 use Rattle.std.proofs.lemmas.Bool.{cases_lt}
 use Rattle.std.proofs.lemmas.List.{get_or_default, get_or_at, get_or-append-add, append-nil, append_assoc, take-append-drop, get_or-take, get_or-drop, length-take, length-drop, length-append, get_or_append_left, get_or-append_right}
 use Rattle.std.proofs.lemmas.List.Elements.{All-contains, All-filter, All-contains_itself, Contains-append_cases, Contains-push_cases}
 use Rattle.std.proofs.lemmas.List.Kept.{IsNonDecreasingBy-filter}
-use Rattle.rm_catalog.specs.declared.record.Record.{Record}
-use Rattle.rm_catalog.specs.declared.record.Edit.{Edit}
-use Rattle.rm_catalog.specs.declared.record.Edit.TheVariants.{Put, Drop}
-use Rattle.rm_catalog.specs.Keys.{place_of, place_of_key, InOrder}
-use Rattle.rm_catalog.specs.Edits.{below, above, place_of_edit, after_edit, after_edits}
-use Rattle.rm_catalog.specs.Passes.{EditsInOrder, IsReady, HasMade, AllFromPlace}
-use Rattle.rm_catalog.proofs.Found.{AllBelow, AllFrom}
-use Rattle.rm_catalog.proofs.Unique.{head_or_tail}
+use Rattle.rm_catalog.specs.{Keys.{place_of, place_of_key, InOrder}, Edits.{below, above, place_of_edit, after_edit, after_edits}}
+use Rattle.rm_catalog.specs.{Passes.{EditsInOrder, IsReady, HasMade, AllFromPlace}, declared.record.{Record.{Record}, Edit.{Edit}}}
+use Rattle.rm_catalog.{specs.declared.record.Edit.TheVariants.{Put, Drop}, proofs.{Found.{AllBelow, AllFrom}, Unique.{head_or_tail}}}
 use Rattle.rm_catalog.proofs.Filters.{below_all, below_none, below_append, below_low, above_all, above_none, above_append, above_high}
 
 -- as many records as stand before a place are those below it

@@ -1,18 +1,10 @@
 -- Edits in another order, in which those of one place keep theirs, have the same outcome.
-use Rattle.std.proofs.Common.{◌≡◌, ℕ, suc, ◌<◌, ◌≤◌, Bool, true, false, eqb, cond, List, [], ◌∷◌, ◌++◌, refl, ap, sym, subst, ◌∙◌, arith, eq-eqb, ◌⊎◌, inl, inr, All}
-use Rattle.std.specs.List.{filter}
-use Rattle.std.specs.Prelude.{not, ◌&&◌}
-use Rattle.std.specs.Ordering.{is_lt, nat_cmp}
-use Rattle.std.specs.Cmp.{nat_cmp_is}
-use Rattle.std.specs.declared.cmp.Ordering.{Ordering}
+use Rattle.std.specs.{List.{filter}, Prelude.{not, ◌&&◌}, Ordering.{is_lt, nat_cmp}, Cmp.{nat_cmp_is}, declared.cmp.Ordering.{Ordering}}
 use Rattle.std.specs.declared.cmp.Ordering.TheVariants.{Less, Equal, Greater}
-use Rattle.std.proofs.lemmas.Bool.{cases_eq, cases_lt}
-use Rattle.std.proofs.lemmas.List.Elements.{All-nil, All-cons, filter-append}
-use Rattle.rm_catalog.specs.declared.record.Record.{Record}
-use Rattle.rm_catalog.specs.declared.record.Edit.{Edit}
-use Rattle.rm_catalog.specs.Edits.{place_of_edit, after_edit, after_edits}
-use Rattle.rm_catalog.proofs.Found.{differ}
-use Rattle.rm_catalog.proofs.Filters.{after_swap, filter_none}
+use Rattle.std.proofs.Common.{◌≡◌, ℕ, suc, ◌<◌, ◌≤◌, Bool, true, false, eqb, cond, List, [], ◌∷◌, ◌++◌, refl, ap, sym, subst, ◌∙◌, arith, eq-eqb, ◌⊎◌, inl, inr, All}
+use Rattle.std.proofs.lemmas.{Bool.{cases_eq, cases_lt}, List.Elements.{All-nil, All-cons, filter-append}}
+use Rattle.rm_catalog.specs.{Edits.{place_of_edit, after_edit, after_edits}, declared.record.{Record.{Record}, Edit.{Edit}}}
+use Rattle.rm_catalog.proofs.{Found.{differ}, Filters.{after_swap, filter_none}}
 
 -- whether an edit is of this place
 abbrev pub is_at : ℕ → Edit → Bool

@@ -1,27 +1,14 @@
 -- The switches of the records, one by one.
+use Rattle.std.specs.{Prelude.{IfSome, IsSomeAnd}, List.{cons_option}, Option.{option_map, option_map_or}}
 use Rattle.std.proofs.Common.{◌≡◌, ℕ, zero, suc, ◌+◌, ◌-◌, ◌<◌, ◌≤◌, ◌&&◌, nat_le, eqb, Bool, false, List, [], ◌∷◌, ◌++◌, get_or, length, take, Option, Some, None, refl, ap, sym, subst, ◌∙◌, arith, Contains, option_to_list}
-use Rattle.std.specs.Prelude.{IfSome, IsSomeAnd}
-use Rattle.std.specs.List.{cons_option}
-use Rattle.std.specs.Option.{option_map, option_map_or}
-use Rattle.std.proofs.lemmas.List.{append-nil, take_more}
-use Rattle.std.proofs.lemmas.List.Elements.{filter_map-append}
-use Rattle.std.proofs.lemmas.Option.{same_Some}
-use Rattle.rm_catalog.specs.declared.record.IncarnationEntry.{IncarnationEntry}
-use Rattle.rm_catalog.specs.declared.record.SwitchEntry.{SwitchEntry}
-use Rattle.rm_catalog.specs.declared.record.Record.{Record}
-use Rattle.rm_catalog.specs.declared.record.Record.TheVariants as records
-use Rattle.rm_catalog.specs.Keys.{incarnation, switch, switch_in}
-use Rattle.rm_catalog.specs.Objects.{owner_in}
-use Rattle.rm_catalog.specs.Rules.{IsCatalog}
+use Rattle.std.proofs.lemmas.{List.{append-nil, take_more, Elements.{filter_map-append}}, Option.{same_Some}}
+use Rattle.rm_catalog.specs.{Keys.{incarnation, switch, switch_in}, Objects.{owner_in}, Rules.{IsCatalog}}
 use Rattle.rm_catalog.specs.Switches.{IsAt, SwitchRule, applies_in, began_with, last_in, switch_of, switches, told_by, was_enabled}
-use Rattle.rm_catalog.specs.Trees.{nodes}
-use Rattle.rm_history.specs.declared.tree.Incarnation.{Incarnation}
-use Rattle.rm_catalog.proofs.Numbering.{incarnation-rule, obeys}
+use Rattle.rm_catalog.specs.{Trees.{nodes}, declared.record.{IncarnationEntry.{IncarnationEntry}, SwitchEntry.{SwitchEntry}}}
+use Rattle.rm_catalog.{specs.declared.record.Record.{Record, TheVariants as records}, proofs.Numbering.{incarnation-rule, obeys}}
 use Rattle.rm_catalog.proofs.Telling.{record-told, told-record}
-use Rattle.rm_history.specs.declared.world.Switch.{Switch}
-use Rattle.rm_history.specs.Tree.{owner}
-use Rattle.rm_history.specs.Threads.{after_switch, applies, is_enabled, is_on, last_switch}
-use Rattle.rm_history.proofs.Enabled.{last-push, last-same}
+use Rattle.rm_history.specs.{Tree.{owner}, Threads.{after_switch, applies, is_enabled, is_on, last_switch}}
+use Rattle.rm_history.{specs.declared.{tree.Incarnation.{Incarnation}, world.Switch.{Switch}}, proofs.Enabled.{last-push, last-same}}
 
 pub is-switch : (r : Record) (x : SwitchEntry) → switch_in r ≡ Some x → r ≡ records.Switch x
 is-switch = elim [

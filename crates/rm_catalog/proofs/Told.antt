@@ -1,31 +1,19 @@
 -- Whatever the order of the records, the first that breaks a rule has one place.
-use Rattle.std.proofs.Common.{◌≡◌, ℕ, zero, suc, ◌+◌, ◌-◌, ◌<◌, ◌≤◌, Bool, true, false, eqb, leb, cond, ◌&&◌, List, [], ◌∷◌, length, get_or, Option, Some, None, refl, ap, sym, subst, ◌∙◌, arith, eq-eqb, ◌⊎◌, inl, inr}
 use Rattle.std.specs.Prelude.{Contains, IsPermutation, IfSome, IsSome, IsTrue, IsSomeAnd, MatchBool, ◌||◌, nat_le, not, option_and_then}
 use Rattle.std.specs.Option.{option_map_or}
+use Rattle.std.proofs.Common.{◌≡◌, ℕ, zero, suc, ◌+◌, ◌-◌, ◌<◌, ◌≤◌, Bool, true, false, eqb, leb, cond, ◌&&◌, List, [], ◌∷◌, length, get_or, Option, Some, None, refl, ap, sym, subst, ◌∙◌, arith, eq-eqb, ◌⊎◌, inl, inr}
 use Rattle.std.proofs.lemmas.List.Sorted.{IsPermutation-sym, IsPermutation-trans, Contains-permutation, sum_by-IsPermutation, list_any-IsPermutation}
-use Rattle.std.proofs.lemmas.List.{get_or_append_left, get_or_at}
-use Rattle.std.proofs.lemmas.Bool.{cases_lt, cases_eq, false≢true}
-use Rattle.rm_catalog.specs.declared.record.Key.{Key}
-use Rattle.rm_catalog.specs.declared.record.Record.{Record}
-use Rattle.rm_catalog.specs.declared.record.Record.TheVariants as records
-use Rattle.rm_catalog.specs.declared.record.BaseEntry.{BaseEntry}
-use Rattle.rm_catalog.specs.declared.record.IncarnationEntry.{IncarnationEntry}
-use Rattle.rm_catalog.specs.declared.record.DatafileEntry.{DatafileEntry}
-use Rattle.rm_catalog.specs.declared.record.MarkEntry.{MarkEntry}
-use Rattle.rm_catalog.specs.declared.record.SwitchEntry.{SwitchEntry}
+use Rattle.std.proofs.lemmas.{List.{get_or_append_left, get_or_at}, Bool.{cases_lt, cases_eq, false≢true}}
 use Rattle.rm_catalog.specs.Keys.{place, place_of, place_of_key, at, InOrder, IsThere, base, incarnation, datafile, mark, switch, base_in, incarnation_in, datafile_in, mark_in, switch_in}
 use Rattle.rm_catalog.specs.Facts.{BeginsOn, is_mark_of, IsCreatedOn, blocks_to, IsWithin}
-use Rattle.rm_catalog.specs.Objects.{IdRule, IsRange, id_kinds, owner_in, FitsDatafile}
-use Rattle.rm_catalog.specs.Saved.{is_part_of}
-use Rattle.rm_catalog.specs.Rules.{Obeys, OwnRule, IsOrderOf, IsFirstBad, lasts_below}
-use Rattle.rm_catalog.specs.SetRules.{FitsSetFile, SetPartRule}
-use Rattle.rm_catalog.specs.declared.record.SetPart.{SetPart}
+use Rattle.rm_catalog.specs.{Objects.{IdRule, IsRange, id_kinds, owner_in, FitsDatafile}, Saved.{is_part_of}}
+use Rattle.rm_catalog.specs.{Rules.{Obeys, OwnRule, IsOrderOf, IsFirstBad, lasts_below}, SetRules.{FitsSetFile, SetPartRule}}
 use Rattle.rm_catalog.specs.Switches.{IsAt, applies_in, began_with, last_in, leaves_one, stays, switch_of, was_enabled}
-use Rattle.rm_history.specs.declared.world.Switch.{Switch}
-use Rattle.rm_history.specs.Threads.{after_switch, is_last, is_on}
-use Rattle.rm_catalog.proofs.Found.{differ}
-use Rattle.rm_catalog.proofs.Counts.{alike, alike_count}
-use Rattle.rm_catalog.proofs.Unique.{none_alike, head_or_tail, in_tail, middle}
+use Rattle.rm_catalog.specs.declared.record.{Key.{Key}, Record.{Record, TheVariants as records}, BaseEntry.{BaseEntry}}
+use Rattle.rm_catalog.specs.declared.record.{IncarnationEntry.{IncarnationEntry}, DatafileEntry.{DatafileEntry}, MarkEntry.{MarkEntry}}
+use Rattle.rm_catalog.{specs.declared.record.{SwitchEntry.{SwitchEntry}, SetPart.{SetPart}}, proofs.Found.{differ}}
+use Rattle.rm_catalog.proofs.{Counts.{alike, alike_count}, Unique.{none_alike, head_or_tail, in_tail, middle}}
+use Rattle.rm_history.specs.{Threads.{after_switch, is_last, is_on}, declared.world.Switch.{Switch}}
 
 pub at_here : (r : Record) (rs : List Record) (q : ℕ) → place_of r ≡ q → at q (r ∷ rs) ≡ Some r
 at_here r rs q e = ap (λ (b : Bool). cond b (Some r) (at q rs)) (eq-eqb (place_of r) q e)

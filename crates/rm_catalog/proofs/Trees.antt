@@ -1,30 +1,17 @@
 -- The tree that the incarnations of a catalog make, and its paths.
+use Rattle.std.specs.{Prelude.{Contains, IsSome, IsSomeAnd, option_to_list}, List.{cons_option}, Option.{option_map, option_map_or}}
 use Rattle.std.proofs.Common.{◌≡◌, ℕ, zero, suc, ◌+◌, ◌-◌, ◌<◌, ◌≤◌, Bool, leb, cond, List, [], ◌∷◌, ◌++◌, length, get_or, take, drop, map, Option, Some, None, refl, ap, sym, subst, ◌∙◌, arith, inl, inr, slice_get}
-use Rattle.std.specs.Prelude.{Contains, IsSome, IsSomeAnd, option_to_list}
-use Rattle.std.specs.List.{cons_option}
-use Rattle.std.specs.Option.{option_map, option_map_or}
-use Rattle.std.proofs.lemmas.Bool.{cases_lt, false≢true, le-ltb, lt-ltb}
-use Rattle.std.proofs.lemmas.Option.{slice_get-get_or, slice_get_past}
+use Rattle.std.proofs.lemmas.{Bool.{cases_lt, false≢true, le-ltb, lt-ltb}, Option.{slice_get-get_or, slice_get_past}}
 use Rattle.std.proofs.lemmas.List.{get_or_default, get_or_at, length-append, length-take, length-map, take-take, take-append-drop, get_or_append_left, get_or-take, drop_more, take_more}
 use Rattle.std.proofs.lemmas.List.Elements.{filter_map-append, All-contains}
-use Rattle.rm_history.specs.declared.tree.Incarnation as tree
-use Rattle.rm_history.specs.Tree.{HasParentsBelow, IsThere, owner, parent_of, reset_of, end_of}
-use Rattle.rm_history.specs.Tree.{incarnation as in_tree}
-use Rattle.rm_history.proofs.Owners.{owner-step, owner-none}
-use Rattle.rm_catalog.specs.declared.record.BaseEntry.{BaseEntry}
-use Rattle.rm_catalog.specs.declared.record.IncarnationEntry.{IncarnationEntry}
-use Rattle.rm_catalog.specs.declared.record.Record.{Record}
-use Rattle.rm_catalog.specs.declared.record.Record.TheVariants as records
-use Rattle.rm_catalog.specs.Keys.{place, place_of, at, InOrder, incarnation, incarnation_in}
-use Rattle.rm_catalog.specs.Facts.{BaseRule, IncarnationRule, BeginsOn}
-use Rattle.rm_catalog.specs.Objects.{owner_in}
-use Rattle.rm_catalog.specs.Rules.{Obeys, IsCatalog, HasDatabase}
-use Rattle.rm_catalog.specs.Edits.{below}
-use Rattle.rm_catalog.specs.Trees.{node, node_in, nodes, as_tree, known_in, IsNext, BranchInTurn}
-use Rattle.rm_catalog.proofs.Found.{differ}
-use Rattle.rm_catalog.proofs.Numbering.{entries, number_is, entry_at, number_there, entry_record, record_entry}
-use Rattle.rm_catalog.proofs.Filters.{below_none}
-use Rattle.rm_catalog.proofs.Told.{found_is}
+use Rattle.rm_history.specs.Tree.{HasParentsBelow, IsThere, owner, parent_of, reset_of, end_of, incarnation as in_tree}
+use Rattle.rm_history.{specs.declared.tree.Incarnation as tree, proofs.Owners.{owner-step, owner-none}}
+use Rattle.rm_catalog.specs.{Keys.{place, place_of, at, InOrder, incarnation, incarnation_in}, Facts.{BaseRule, IncarnationRule, BeginsOn}}
+use Rattle.rm_catalog.specs.{Objects.{owner_in}, Rules.{Obeys, IsCatalog, HasDatabase}, Edits.{below}}
+use Rattle.rm_catalog.specs.{Trees.{node, node_in, nodes, as_tree, known_in, IsNext, BranchInTurn}, declared.record.BaseEntry.{BaseEntry}}
+use Rattle.rm_catalog.specs.declared.record.{IncarnationEntry.{IncarnationEntry}, Record.{Record, TheVariants as records}}
+use Rattle.rm_catalog.proofs.{Found.{differ}, Numbering.{entries, number_is, entry_at, number_there, entry_record, record_entry}}
+use Rattle.rm_catalog.proofs.{Filters.{below_none}, Told.{found_is}}
 
 -- the nodes are the entries
 pub nodes_are : (rs : List Record) → nodes rs ≡ map node (entries rs)

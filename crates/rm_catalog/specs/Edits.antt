@@ -1,10 +1,6 @@
 -- The records after edits.
-use Rattle.std.specs.Prelude.{ℕ, Option, Some, None, List, [], ◌∷◌, ◌++◌, nat_lt}
-use Rattle.std.specs.List.{filter}
-use Rattle.rm_catalog.specs.declared.record.Record.{Record}
-use Rattle.rm_catalog.specs.declared.record.Edit.{Edit}
-use Rattle.rm_catalog.specs.declared.record.Edit.TheVariants.{Put, Drop}
-use Rattle.rm_catalog.specs.Keys.{place_of, place_of_key}
+use Rattle.std.specs.{Prelude.{ℕ, Option, Some, None, List, [], ◌∷◌, ◌++◌, nat_lt}, List.{filter}}
+use Rattle.rm_catalog.specs.{Keys.{place_of, place_of_key}, declared.record.{Record.{Record}, Edit.{Edit, TheVariants.{Put, Drop}}}}
 
 -- the records below a place
 abbrev pub below : ℕ → List Record → List Record

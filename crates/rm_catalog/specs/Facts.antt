@@ -1,16 +1,10 @@
 -- What the base facts, an incarnation, a datafile and a mark obey in a list of records.
 use Rattle.std.specs.Prelude.{◌≡◌, ℕ, ◌-◌, ◌<◌, ◌≤◌, ◌==◌, Bool, false, IsTrue, List, IsSomeAnd, nat_le, sum_by, if◌then◌else◌}
 use Rattle.std.specs.List.{list_any}
-use Rattle.rm_base.specs.Numbers.{last_scn, last_moment}
-use Rattle.rm_base.specs.declared.kinds.Policy.{Policy}
-use Rattle.rm_base.specs.declared.kinds.Policy.TheVariants.{Window, Redundancy, Nothing}
-use Rattle.rm_catalog.specs.declared.record.BaseEntry.{BaseEntry}
-use Rattle.rm_catalog.specs.declared.record.IncarnationEntry.{IncarnationEntry}
-use Rattle.rm_catalog.specs.declared.record.DatafileEntry.{DatafileEntry}
-use Rattle.rm_catalog.specs.declared.record.MarkEntry.{MarkEntry}
-use Rattle.rm_catalog.specs.declared.record.Record.{Record}
-use Rattle.rm_catalog.specs.declared.record.Record.TheVariants.{Datafile, Mark}
-use Rattle.rm_catalog.specs.Keys.{IsThere, base, incarnation, mark}
+use Rattle.rm_base.specs.{Numbers.{last_scn, last_moment}, declared.kinds.Policy.{Policy, TheVariants.{Window, Redundancy, Nothing}}}
+use Rattle.rm_catalog.specs.{Keys.{IsThere, base, incarnation, mark}, declared.record.BaseEntry.{BaseEntry}}
+use Rattle.rm_catalog.specs.declared.record.{IncarnationEntry.{IncarnationEntry}, DatafileEntry.{DatafileEntry}, MarkEntry.{MarkEntry}}
+use Rattle.rm_catalog.specs.declared.record.Record.{Record, TheVariants.{Datafile, Mark}}
 
 -- the window or the redundancy is in its range
 abbrev pub IsPolicy : Policy → Type 0

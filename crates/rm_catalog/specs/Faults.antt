@@ -1,10 +1,7 @@
 -- What a catalog tells of records that are not valid, and what a keeper answers.
 use Rattle.std.specs.Prelude.{◌≡◌, List, Option, IfSome, Result, Ok, Err, IsPermutation}
-use Rattle.rm_catalog.specs.declared.catalog.CatalogFault.{CatalogFault}
-use Rattle.rm_catalog.specs.declared.catalog.CatalogFault.TheVariants.{BadRow, NoMemory}
-use Rattle.rm_catalog.specs.declared.record.Key.{Key}
-use Rattle.rm_catalog.specs.declared.record.Record.{Record}
-use Rattle.rm_catalog.specs.Rules.{IsOrderOf, IsFirstBad}
+use Rattle.rm_catalog.specs.{Rules.{IsOrderOf, IsFirstBad}, declared.catalog.CatalogFault.{CatalogFault, TheVariants.{BadRow, NoMemory}}}
+use Rattle.rm_catalog.specs.declared.record.{Key.{Key}, Record.{Record}}
 
 -- the records in order have a first one that breaks a rule, and it is told
 abbrev pub IsBadRow : List Record → CatalogFault → Type 0

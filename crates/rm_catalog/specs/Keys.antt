@@ -1,20 +1,10 @@
 -- The key of a record, the order of keys, and the record that stands under a key.
 use Rattle.std.specs.Prelude.{ℕ, ◌+◌, ◌*◌, ◌<◌, ◌==◌, false, AllPairs, List, [], ◌∷◌, Option, Some, None, IsSome, find, map, min, option_and_then}
-use Rattle.std.specs.List.{flat_map}
-use Rattle.std.specs.List.Sorted.{IsNonDecreasingBy}
-use Rattle.rm_catalog.specs.declared.record.Key.{Key}
-use Rattle.rm_catalog.specs.declared.record.BaseEntry.{BaseEntry}
-use Rattle.rm_catalog.specs.declared.record.IncarnationEntry.{IncarnationEntry}
-use Rattle.rm_catalog.specs.declared.record.DatafileEntry.{DatafileEntry}
-use Rattle.rm_catalog.specs.declared.record.LogEntry.{LogEntry}
-use Rattle.rm_catalog.specs.declared.record.PieceEntry.{PieceEntry}
-use Rattle.rm_catalog.specs.declared.record.MarkEntry.{MarkEntry}
-use Rattle.rm_catalog.specs.declared.record.PartEntry.{PartEntry}
-use Rattle.rm_catalog.specs.declared.record.HeadEntry.{HeadEntry}
-use Rattle.rm_catalog.specs.declared.record.SetEntry.{SetEntry}
-use Rattle.rm_catalog.specs.declared.record.SetPart.{SetPart}
-use Rattle.rm_catalog.specs.declared.record.SwitchEntry.{SwitchEntry}
-use Rattle.rm_catalog.specs.declared.record.Record.{Record}
+use Rattle.std.specs.List.{flat_map, Sorted.{IsNonDecreasingBy}}
+use Rattle.rm_catalog.specs.declared.record.{Key.{Key}, BaseEntry.{BaseEntry}, IncarnationEntry.{IncarnationEntry}}
+use Rattle.rm_catalog.specs.declared.record.{DatafileEntry.{DatafileEntry}, LogEntry.{LogEntry}, PieceEntry.{PieceEntry}}
+use Rattle.rm_catalog.specs.declared.record.{MarkEntry.{MarkEntry}, PartEntry.{PartEntry}, HeadEntry.{HeadEntry}, SetEntry.{SetEntry}}
+use Rattle.rm_catalog.specs.declared.record.{SetPart.{SetPart}, SwitchEntry.{SwitchEntry}, Record.{Record}}
 use Rattle.rm_catalog.specs.declared.record.Record.TheVariants.{Base, Incarnation, Datafile, Log, Piece, Mark, Part, Head, Set, Switch}
 
 -- the key of a record

@@ -1,10 +1,7 @@
 -- A keeper in memory.
 use Rattle.std.specs.Prelude.{ℕ, ◌+◌, Bool, true, false, List, Result, Ok, Err}
-use Rattle.rm_base.specs.Failing.{faults_of}
-use Rattle.rm_base.specs.declared.memory.Failing.{Failing}
-use Rattle.rm_catalog.specs.declared.keeper.KeeperFail.{KeeperFail}
-use Rattle.rm_catalog.specs.declared.keeper.KeeperFail.TheVariants.{Failed, NoMemory}
-use Rattle.rm_catalog.specs.declared.keeper.MemKeeper.{MemKeeper}
+use Rattle.rm_base.specs.{Failing.{faults_of}, declared.memory.Failing.{Failing}}
+use Rattle.rm_catalog.specs.declared.keeper.{KeeperFail.{KeeperFail, TheVariants.{Failed, NoMemory}}, MemKeeper.{MemKeeper}}
 use Rattle.rm_catalog.specs.declared.record.Record.{Record}
 
 -- the records that it keeps

@@ -1,10 +1,6 @@
 -- How edits are made in one pass over the records.
-use Rattle.std.specs.Prelude.{◌≡◌, ℕ, ◌≤◌, List, ◌++◌, All, Contains}
-use Rattle.std.specs.List.Sorted.{IsNonDecreasingBy}
-use Rattle.rm_catalog.specs.declared.record.Record.{Record}
-use Rattle.rm_catalog.specs.declared.record.Edit.{Edit}
-use Rattle.rm_catalog.specs.Keys.{place_of, InOrder}
-use Rattle.rm_catalog.specs.Edits.{place_of_edit, after_edits}
+use Rattle.std.specs.{Prelude.{◌≡◌, ℕ, ◌≤◌, List, ◌++◌, All, Contains}, List.Sorted.{IsNonDecreasingBy}}
+use Rattle.rm_catalog.specs.{Keys.{place_of, InOrder}, Edits.{place_of_edit, after_edits}, declared.record.{Record.{Record}, Edit.{Edit}}}
 
 -- the edits ascend by place
 abbrev pub EditsInOrder : List Edit → Type 0

@@ -1,16 +1,9 @@
 //! All records of a database.
-ghost use Rattle.std.specs.Prelude.{◌≡◌, ◌<◌, ◌^◌, List, IfOk, IfErr, IfSome, IfNone, OnOk, OnErr};
-ghost use Rattle.std.specs.Option.{option_copied};
-ghost use Rattle.rm_catalog.specs.declared.record.Record.{Record};
-ghost use Rattle.rm_catalog.specs.declared.record.Key.{Key};
-ghost use Rattle.rm_catalog.specs.Keys.{place_of_key, InOrder, at};
-ghost use Rattle.rm_catalog.specs.Faults.{IsBadRow, IsTaken, IsTold};
-ghost use Rattle.rm_catalog.specs.Rules.{HasDatabase, IsValid, IsOrderOf, IsCatalog, IsFirstBad};
-ghost use Rattle.rm_catalog.specs.Switches.{began_with, switches};
-ghost use Rattle.rm_catalog.specs.Trees.{nodes, as_tree};
-ghost use Rattle.rm_history.specs.Threads.{is_enabled};
-ghost use Rattle.rm_history.specs.Tree.{IsThere};
-ghost use Rattle.rm_catalog.specs.Edits.{after_edits};
+ghost use Rattle.std.specs.{Prelude.{◌≡◌, ◌<◌, ◌^◌, List, IfOk, IfErr, IfSome, IfNone, OnOk, OnErr}, Option.{option_copied}};
+ghost use Rattle.rm_catalog.specs.{Keys.{place_of_key, InOrder, at}, Faults.{IsBadRow, IsTaken, IsTold}};
+ghost use Rattle.rm_catalog.specs.{Rules.{HasDatabase, IsValid, IsOrderOf, IsCatalog, IsFirstBad}, Switches.{began_with, switches}};
+ghost use Rattle.rm_catalog.specs.{Trees.{nodes, as_tree}, Edits.{after_edits}, declared.record.{Record.{Record}, Key.{Key}}};
+ghost use Rattle.rm_history.specs.{Threads.{is_enabled}, Tree.{IsThere}};
 
 use crate::find::{count_before, find};
 use crate::record::{Edit, Key, Record};
@@ -49,9 +42,7 @@ impl From<NoMemory> for CatalogFault {
 
 impl Model for Catalog {
     ghost use Rattle.std.specs.Prelude.{List};
-    ghost use Rattle.rm_catalog.specs.declared.record.Record.{Record};
-    ghost use Rattle.rm_catalog.specs.Rules.{IsCatalog};
-    ghost use Rattle.rm_catalog.specs.Trees.{HasTree};
+    ghost use Rattle.rm_catalog.specs.{Rules.{IsCatalog}, Trees.{HasTree}, declared.record.Record.{Record}};
 
     ghost Value = { List Record };
 
@@ -125,7 +116,7 @@ impl Catalog {
     }
 
     /// The catalog of records that obey all rules and ascend by kind and then id, as those that a catalog gave do:
-    /// nothing is checked anew. `from_records` takes any records, and checks them.
+    /// nothing is checked anew. `from_records` takes any records, and checks them. An error is want of memory.
     pub fn from_valid(records: Seq<Record>) -> Result<Catalog, NoMemory>
         requires { IsCatalog records }
         ensures { IfOk result (λ c. c ≡ records) }

@@ -1,6 +1,5 @@
 //! Copies of records and of edits.
-ghost use Rattle.std.specs.Prelude.{◌≡◌, IfOk, nat_lt};
-ghost use Rattle.std.specs.List.{filter};
+ghost use Rattle.std.specs.{Prelude.{◌≡◌, IfOk, nat_lt}, List.{filter}};
 ghost use Rattle.rm_catalog.specs.Edits.{place_of_edit};
 
 use crate::record::{Edit, Record};

@@ -1,10 +1,8 @@
 //! Edits of records in order, all made in one pass.
 ghost use Rattle.std.specs.Prelude.{◌≡◌, ◌<◌, ◌≤◌, ◌+◌, [], ◌∷◌, ◌++◌, List, IfOk, OnOk, OnErr, IfSome, IfNone, All, reverse};
 ghost use Rattle.std.specs.Vec.{vec_len, vec_capacity};
-ghost use Rattle.rm_catalog.specs.declared.record.Record.{Record};
-ghost use Rattle.rm_catalog.specs.Keys.{place_of, Ascends, InOrder};
-ghost use Rattle.rm_catalog.specs.Edits.{place_of_edit, below, after_edit, after_edits};
-ghost use Rattle.rm_catalog.specs.Passes.{EditsInOrder, IsReady, HasMade};
+ghost use Rattle.rm_catalog.specs.{Keys.{place_of, Ascends, InOrder}, Edits.{place_of_edit, below, after_edit, after_edits}};
+ghost use Rattle.rm_catalog.specs.{Passes.{EditsInOrder, IsReady, HasMade}, declared.record.Record.{Record}};
 
 use crate::copies;
 use crate::find::count_before;

@@ -1,6 +1,5 @@
 //! The rules of base facts, incarnations, datafiles and marks.
-ghost use Rattle.std.specs.Prelude.{◌≡◌, ◌<◌, ◌≤◌, ◌-◌, IsTrue, IsSomeAnd, ◌↔◌};
-ghost use Rattle.std.specs.List.{list_any};
+ghost use Rattle.std.specs.{Prelude.{◌≡◌, ◌<◌, ◌≤◌, ◌-◌, IsTrue, IsSomeAnd, ◌↔◌}, List.{list_any}};
 ghost use Rattle.rm_catalog.specs.Keys.{InOrder, base, incarnation, mark};
 ghost use Rattle.rm_catalog.specs.Facts.{IsPolicy, BaseRule, BeginsOn, BranchRule, OriginRule, is_mark_of, IncarnationRule, IsCreatedOn, blocks_to, HasDatafileBefore, HasRoom, DatafileRule, IsWithin, MarkRule};
 

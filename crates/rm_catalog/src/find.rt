@@ -1,8 +1,7 @@
 //! The record at a place of a list in order.
-ghost use Rattle.std.specs.Prelude.{◌≡◌, ◌<◌, ◌≤◌, ℕ, length, IsTrue, ◌↔◌, slice_index_or};
-ghost use Rattle.std.specs.Option.{option_copied};
-ghost use Rattle.rm_catalog.specs.declared.record.Record.{Record};
+ghost use Rattle.std.specs.{Prelude.{◌≡◌, ◌<◌, ◌≤◌, ℕ, length, IsTrue, ◌↔◌, slice_index_or}, Option.{option_copied}};
 ghost use Rattle.rm_catalog.specs.Keys.{place, place_of, InOrder, at, IsThere, base, incarnation, mark, datafile, switch};
+ghost use Rattle.rm_catalog.specs.declared.record.Record.{Record};
 
 use crate::record::{
     BaseEntry, DatafileEntry, IncarnationEntry, Key, MarkEntry, Record, SwitchEntry,

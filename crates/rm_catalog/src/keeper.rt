@@ -2,11 +2,8 @@
 ghost use Rattle.std.specs.Prelude.{◌≡◌, ◌↔◌, ◌≤◌, [], ℕ, List, Option, Some, map, IfOk, IfSome, OnOk, OnErr, IsErrOf};
 ghost use Rattle.std.specs.Option.{option_map};
 ghost use Rattle.rm_base.specs.Outside.{Rose};
-ghost use Rattle.rm_catalog.specs.declared.record.Record.{Record};
+ghost use Rattle.rm_catalog.specs.{Keys.{Ascends}, Edits.{after_edits}, Faults.{Answers}, declared.record.Record.{Record}};
 ghost use Rattle.rm_catalog.specs.declared.record.Edit.TheVariants.{Put};
-ghost use Rattle.rm_catalog.specs.Keys.{Ascends};
-ghost use Rattle.rm_catalog.specs.Edits.{after_edits};
-ghost use Rattle.rm_catalog.specs.Faults.{Answers};
 
 use crate::record::{Edit, Record};
 use crate::{copies, edits};
@@ -104,8 +101,8 @@ impl MemKeeper {
 
 impl Keeper for MemKeeper {
     ghost use Rattle.rm_base.specs.Failing.{faults_of, FailsNext, after_call};
-    ghost use Rattle.rm_catalog.specs.declared.keeper.KeeperFail.TheVariants.{Failed};
     ghost use Rattle.rm_catalog.specs.MemKeeper.{kept_records, loads_of, applies_of, faults_in, has_failed};
+    ghost use Rattle.rm_catalog.specs.declared.keeper.KeeperFail.TheVariants.{Failed};
 
     ghost kept = { λ k. Some (kept_records k) };
 

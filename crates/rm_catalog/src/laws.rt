@@ -1,20 +1,10 @@
 //! What the definitions of records, edits and trees mean.
 ghost use Rattle.std.specs.Prelude.{ℕ, ◌≡◌, ◌+◌, ◌<◌, ◌≤◌, ◌^◌, ◌==◌, ◌⊎◌, ◌↔◌, Contains, List, Some, if◌then◌else◌, length, take};
-ghost use Rattle.rm_history.specs.Threads.{is_enabled};
-ghost use Rattle.rm_history.specs.Tree.{IsThere, owner};
-ghost use Rattle.rm_history.specs.Tree.{incarnation as in_tree};
-ghost use Rattle.rm_catalog.specs.declared.record.Key.{Key};
-ghost use Rattle.rm_catalog.specs.declared.record.Edit.{Edit};
-ghost use Rattle.rm_catalog.specs.declared.record.IncarnationEntry.{IncarnationEntry};
-ghost use Rattle.rm_catalog.specs.declared.record.Record.{Record};
-ghost use Rattle.rm_catalog.specs.declared.record.Record.TheVariants.{Switch};
-ghost use Rattle.rm_catalog.specs.declared.record.SwitchEntry.{SwitchEntry};
-ghost use Rattle.rm_catalog.specs.Keys.{place_of_key, at, InOrder, incarnation};
-ghost use Rattle.rm_catalog.specs.Edits.{place_of_edit, put_by, after_edit, after_edits};
-ghost use Rattle.rm_catalog.specs.Objects.{owner_in};
-ghost use Rattle.rm_catalog.specs.Rules.{IsCatalog};
-ghost use Rattle.rm_catalog.specs.Switches.{began_with, switches, was_enabled};
-ghost use Rattle.rm_catalog.specs.Trees.{node, nodes};
+ghost use Rattle.rm_history.specs.{Threads.{is_enabled}, Tree.{IsThere, owner, incarnation as in_tree}};
+ghost use Rattle.rm_catalog.specs.{Keys.{place_of_key, at, InOrder, incarnation}, Edits.{place_of_edit, put_by, after_edit, after_edits}};
+ghost use Rattle.rm_catalog.specs.{Objects.{owner_in}, Rules.{IsCatalog}, Switches.{began_with, switches, was_enabled}};
+ghost use Rattle.rm_catalog.specs.{Trees.{node, nodes}, declared.record.{Key.{Key}, Edit.{Edit}, IncarnationEntry.{IncarnationEntry}}};
+ghost use Rattle.rm_catalog.specs.declared.record.{Record.{Record, TheVariants.{Switch}}, SwitchEntry.{SwitchEntry}};
 
 /// Keys stand in order of kind and then of id.
 pub fn keys_stand_by_kind_and_id()

@@ -1,6 +1,5 @@
 //! The rules of logs and pieces.
-ghost use Rattle.std.specs.Prelude.{◌≡◌, ◌<◌, ◌≤◌, All, IsTrue, IsSomeAnd, ◌↔◌};
-ghost use Rattle.std.specs.List.{list_all};
+ghost use Rattle.std.specs.{Prelude.{◌≡◌, ◌<◌, ◌≤◌, All, IsTrue, IsSomeAnd, ◌↔◌}, List.{list_all}};
 ghost use Rattle.rm_catalog.specs.Keys.{InOrder, base, incarnation, datafile};
 ghost use Rattle.rm_catalog.specs.Objects.{IdRule, IsFree, IsRange, LogRule, owner_in, FitsRows, FitsKind, FitsDatafile, is_tag_byte, IsTag, PieceRule};
 

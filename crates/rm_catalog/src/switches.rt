@@ -1,8 +1,6 @@
 //! The switches of redo threads: what one obeys, and which threads are enabled.
-ghost use Rattle.std.specs.Prelude.{◌≡◌, ◌<◌, ◌≤◌, Contains, IfSome, IsTrue, IsSomeAnd, ◌↔◌};
-ghost use Rattle.std.specs.Option.{option_map_or};
-ghost use Rattle.rm_history.specs.Threads.{after_switch, applies, is_on, last_switch};
-ghost use Rattle.rm_history.specs.Tree.{IsThere};
+ghost use Rattle.std.specs.{Prelude.{◌≡◌, ◌<◌, ◌≤◌, Contains, IfSome, IsTrue, IsSomeAnd, ◌↔◌}, Option.{option_map_or}};
+ghost use Rattle.rm_history.specs.{Threads.{after_switch, applies, is_on, last_switch}, Tree.{IsThere}};
 ghost use Rattle.rm_history.specs.declared.world.Switch.{Switch as Switched};
 ghost use Rattle.rm_catalog.specs.Keys.{InOrder, incarnation};
 ghost use Rattle.rm_catalog.specs.Switches.{HasSwitchBefore, IsAbove, IsAt, SwitchRule, applies_in, began_with, last_in, leaves_one, stays, switch_of, switches, told_by, was_enabled};

@@ -1,9 +1,8 @@
 //! The tree that the incarnations of the records make.
 ghost use Rattle.std.specs.Prelude.{◌≡◌, ◌<◌, ◌≤◌, ◌++◌, ◌∷◌, [], length, IfOk, option_to_list};
 ghost use Rattle.rm_history.specs.Tree.{IsThere, reset_of, end_of};
-ghost use Rattle.rm_catalog.specs.declared.record.IncarnationEntry.{IncarnationEntry};
-ghost use Rattle.rm_catalog.specs.declared.record.Record.TheVariants.{Incarnation};
 ghost use Rattle.rm_catalog.specs.Trees.{node, node_in, nodes, as_tree, known_in, IsNext, BranchInTurn};
+ghost use Rattle.rm_catalog.specs.declared.record.{IncarnationEntry.{IncarnationEntry}, Record.TheVariants.{Incarnation}};
 
 use crate::record::{IncarnationEntry, Record};
 use rm_base::NoMemory;

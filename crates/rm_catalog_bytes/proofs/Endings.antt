@@ -1,12 +1,8 @@
 -- An ending with its tag.
-use Rattle.std.proofs.Common.{◌≡◌, ◌∙◌, ◌+◌, ◌^◌, ◌<◌, ℕ, List, [], ◌++◌, length, refl, sym, ap, arith}
-use Rattle.std.proofs.lemmas.List.{length-append}
-use Rattle.rm_base.specs.Number.{eight}
-use Rattle.rm_base.proofs.Wide.{length-eight, fronts_same, eight_same}
-use Rattle.rm_catalog_bytes.specs.declared.ending.Ending.{Ending}
-use Rattle.rm_catalog_bytes.specs.Fits.{EndingFits, EndingFrontFits}
-use Rattle.rm_catalog_bytes.specs.Spelling.{flag, status_code, ending_front, ending_bytes}
-use Rattle.rm_catalog_bytes.proofs.Bodies.{ending_fields}
+use Rattle.std.proofs.{Common.{◌≡◌, ◌∙◌, ◌+◌, ◌^◌, ◌<◌, ℕ, List, [], ◌++◌, length, refl, sym, ap, arith}, lemmas.List.{length-append}}
+use Rattle.rm_base.{specs.Number.{eight}, proofs.Wide.{length-eight, fronts_same, eight_same}}
+use Rattle.rm_catalog_bytes.specs.{Fits.{EndingFits, EndingFrontFits}, Spelling.{flag, status_code, ending_front, ending_bytes}}
+use Rattle.rm_catalog_bytes.{specs.declared.ending.Ending.{Ending}, proofs.Bodies.{ending_fields}}
 use Rattle.rm_catalog_bytes.proofs.Told.{EndingTold, ending_told, length-ending, flag_same, status_same}
 
 pub front_told : (a b : Ending) (m n : ℕ) (x y : List ℕ) → EndingFrontFits a → EndingFrontFits b → m < 2 ^ 64 → n < 2 ^ 64 → ending_front a m ++ x ≡ ending_front b n ++ y → EndingTold b n a.size (status_code a.status) (flag a.keep) m a.sha x y

@@ -1,14 +1,10 @@
 -- A record's key and bytes tell it.
 use Rattle.std.proofs.Common.{◌≡◌, ◌∙◌, ℕ, refl, sym, ap, arith}
-use Rattle.rm_catalog.specs.declared.record.Key.{Key}
-use Rattle.rm_catalog.specs.declared.record.Record.{Record}
+use Rattle.rm_catalog.specs.{Keys.{key_of}, declared.record.{Key.{Key}, Record.{Record}}}
 use Rattle.rm_catalog.specs.declared.record.Record.TheVariants.{Base, Incarnation, Datafile, Log, Piece, Mark, Part, Head, Set, Switch}
-use Rattle.rm_catalog.specs.Keys.{key_of}
-use Rattle.rm_catalog_bytes.specs.Fits.{Fits}
-use Rattle.rm_catalog_bytes.specs.Spelling.{body_of}
+use Rattle.rm_catalog_bytes.specs.{Fits.{Fits}, Spelling.{body_of}}
 use Rattle.rm_catalog_bytes.proofs.Told.{base_same, incarnation_same, datafile_same, log_same, mark_same, part_same, head_same, switch_same}
-use Rattle.rm_catalog_bytes.proofs.Pieces.{piece_same}
-use Rattle.rm_catalog_bytes.proofs.SetTold.{set_same}
+use Rattle.rm_catalog_bytes.proofs.{Pieces.{piece_same}, SetTold.{set_same}}
 
 kind_in : (k l : Key) → k ≡ l → k.kind ≡ l.kind
 kind_in k l e = ap (λ (x : Key). x.kind) e

@@ -1,16 +1,12 @@
 -- A set with its parts and its ending.
-use Rattle.std.proofs.Common.{◌≡◌, ◌∙◌, ◌*◌, ◌^◌, ◌<◌, ◌≤◌, List, ℕ, [], ◌∷◌, ◌++◌, length, All, refl, sym, ap, arith, append_assoc}
 use Rattle.std.specs.List.{flat_map}
+use Rattle.std.proofs.Common.{◌≡◌, ◌∙◌, ◌*◌, ◌^◌, ◌<◌, ◌≤◌, List, ℕ, [], ◌∷◌, ◌++◌, length, All, refl, sym, ap, arith, append_assoc}
 use Rattle.std.proofs.lemmas.List.{length-append}
-use Rattle.rm_base.specs.Number.{four, eight}
-use Rattle.rm_base.proofs.Items.{All-tail, items_same, length-items}
-use Rattle.rm_base.proofs.Wide.{fronts_same}
-use Rattle.rm_catalog.specs.declared.record.SetEntry.{SetEntry}
-use Rattle.rm_catalog.specs.declared.record.SetPart.{SetPart}
+use Rattle.rm_base.{specs.Number.{four, eight}, proofs.{Items.{All-tail, items_same, length-items}, Wide.{fronts_same}}}
+use Rattle.rm_catalog.specs.declared.record.{SetEntry.{SetEntry}, SetPart.{SetPart}}
 use Rattle.rm_catalog_bytes.specs.Fits.{SetPartFits, SetFits}
 use Rattle.rm_catalog_bytes.specs.Spelling.{kind_code, set_part_bytes, set_head, set_ending, set_bytes, ending_bytes}
-use Rattle.rm_catalog_bytes.proofs.Bodies.{set_part_fields, set_fields}
-use Rattle.rm_catalog_bytes.proofs.Endings.{ending_same}
+use Rattle.rm_catalog_bytes.proofs.{Bodies.{set_part_fields, set_fields}, Endings.{ending_same}}
 use Rattle.rm_catalog_bytes.proofs.Told.{set_part_told, length-set_part, SetTold, set_told, length-set, kind_same}
 
 -- ---- its parts

@@ -1,28 +1,16 @@
 -- What bytes tell of the record that they spell.
 use Rattle.std.proofs.Common.{◌≡◌, ◌∙◌, ◌^◌, ◌<◌, ℕ, Bool, true, false, List, [], ◌∷◌, ◌++◌, length, refl, sym, ap, arith}
 use Rattle.std.proofs.lemmas.List.{length-append}
-use Rattle.rm_base.specs.Number.{four, eight}
-use Rattle.rm_base.specs.declared.kinds.Kind.{Kind}
-use Rattle.rm_base.specs.declared.kinds.Kind.TheVariants.{Full, Level0, Level1, Place}
-use Rattle.rm_base.specs.declared.kinds.Status.{Status}
-use Rattle.rm_base.specs.declared.kinds.Status.TheVariants.{Available, Unavailable, Expired}
-use Rattle.rm_base.specs.declared.kinds.Policy.{Policy}
+use Rattle.rm_base.specs.{Number.{four, eight}, declared.kinds.{Kind.{Kind, TheVariants.{Full, Level0, Level1, Place}}, Status.{Status}}}
+use Rattle.rm_base.specs.declared.kinds.{Status.TheVariants.{Available, Unavailable, Expired}, Policy.{Policy}}
 use Rattle.rm_base.specs.declared.kinds.Policy.TheVariants.{Window, Redundancy, Nothing}
 use Rattle.rm_base.proofs.Wide.{length-four, length-eight, fronts_same, four_same, eight_same}
-use Rattle.rm_catalog.specs.declared.record.BaseEntry.{BaseEntry}
-use Rattle.rm_catalog.specs.declared.record.IncarnationEntry.{IncarnationEntry}
-use Rattle.rm_catalog.specs.declared.record.DatafileEntry.{DatafileEntry}
-use Rattle.rm_catalog.specs.declared.record.LogEntry.{LogEntry}
-use Rattle.rm_catalog.specs.declared.record.PieceEntry.{PieceEntry}
-use Rattle.rm_catalog.specs.declared.record.MarkEntry.{MarkEntry}
-use Rattle.rm_catalog.specs.declared.record.PartEntry.{PartEntry}
-use Rattle.rm_catalog.specs.declared.record.HeadEntry.{HeadEntry}
-use Rattle.rm_catalog.specs.declared.record.SetEntry.{SetEntry}
-use Rattle.rm_catalog.specs.declared.record.SetPart.{SetPart}
-use Rattle.rm_catalog.specs.declared.record.SwitchEntry.{SwitchEntry}
-use Rattle.rm_catalog_bytes.specs.declared.ending.Ending.{Ending}
+use Rattle.rm_catalog.specs.declared.record.{BaseEntry.{BaseEntry}, IncarnationEntry.{IncarnationEntry}, DatafileEntry.{DatafileEntry}}
+use Rattle.rm_catalog.specs.declared.record.{LogEntry.{LogEntry}, PieceEntry.{PieceEntry}, MarkEntry.{MarkEntry}, PartEntry.{PartEntry}}
+use Rattle.rm_catalog.specs.declared.record.{HeadEntry.{HeadEntry}, SetEntry.{SetEntry}, SetPart.{SetPart}, SwitchEntry.{SwitchEntry}}
 use Rattle.rm_catalog_bytes.specs.Fits.{BaseFits, IncarnationFits, DatafileFits, LogFits, EndingFrontFits, PieceHeadFits, MarkFits, PartFits, HeadFits, SetPartFits, SetFits, SwitchFits}
 use Rattle.rm_catalog_bytes.specs.Spelling.{flag, status_code, kind_code, policy_code, policy_number, base_bytes, incarnation_bytes, datafile_bytes, log_bytes, ending_front, piece_head, mark_bytes, part_bytes, head_bytes, set_part_bytes, set_head, switch_bytes}
+use Rattle.rm_catalog_bytes.specs.declared.ending.Ending.{Ending}
 use Rattle.rm_catalog_bytes.proofs.Bodies.{base_fields, incarnation_fields, datafile_fields, log_fields, ending_fields, piece_fields, mark_fields, part_fields, head_fields, set_part_fields, set_fields, switch_fields}
 
 cons_same : (a b : ℕ) (x y : List ℕ) → a ∷ x ≡ b ∷ y → (a ≡ b) × (x ≡ y)

@@ -1,20 +1,11 @@
 -- The fields of a record fit their types, as of every record that is at hand.
 use Rattle.std.specs.Prelude.{◌≡◌, ◌<◌, ◌^◌, length, All, IsUtf8}
-use Rattle.rm_catalog.specs.declared.record.BaseEntry.{BaseEntry}
-use Rattle.rm_catalog.specs.declared.record.IncarnationEntry.{IncarnationEntry}
-use Rattle.rm_catalog.specs.declared.record.DatafileEntry.{DatafileEntry}
-use Rattle.rm_catalog.specs.declared.record.LogEntry.{LogEntry}
-use Rattle.rm_catalog.specs.declared.record.PieceEntry.{PieceEntry}
-use Rattle.rm_catalog.specs.declared.record.MarkEntry.{MarkEntry}
-use Rattle.rm_catalog.specs.declared.record.PartEntry.{PartEntry}
-use Rattle.rm_catalog.specs.declared.record.HeadEntry.{HeadEntry}
-use Rattle.rm_catalog.specs.declared.record.SetEntry.{SetEntry}
-use Rattle.rm_catalog.specs.declared.record.SetPart.{SetPart}
-use Rattle.rm_catalog.specs.declared.record.SwitchEntry.{SwitchEntry}
+use Rattle.rm_catalog.specs.declared.record.{BaseEntry.{BaseEntry}, IncarnationEntry.{IncarnationEntry}, DatafileEntry.{DatafileEntry}}
+use Rattle.rm_catalog.specs.declared.record.{LogEntry.{LogEntry}, PieceEntry.{PieceEntry}, MarkEntry.{MarkEntry}, PartEntry.{PartEntry}}
+use Rattle.rm_catalog.specs.declared.record.{HeadEntry.{HeadEntry}, SetEntry.{SetEntry}, SetPart.{SetPart}, SwitchEntry.{SwitchEntry}}
 use Rattle.rm_catalog.specs.declared.record.Record.{Record}
 use Rattle.rm_catalog.specs.declared.record.Record.TheVariants.{Base, Incarnation, Datafile, Log, Piece, Mark, Part, Head, Set, Switch}
-use Rattle.rm_catalog_bytes.specs.declared.ending.Ending.{Ending}
-use Rattle.rm_catalog_bytes.specs.Spelling.{policy_number, piece_ending, set_ending}
+use Rattle.rm_catalog_bytes.specs.{Spelling.{policy_number, piece_ending, set_ending}, declared.ending.Ending.{Ending}}
 
 pub record BaseFits (r : BaseEntry) : Type 0 where
   pub dbid : r.dbid < 2 ^ 32

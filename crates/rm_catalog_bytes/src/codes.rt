@@ -1,8 +1,6 @@
 //! The codes of truth values, statuses, kinds and policies.
 ghost use Rattle.std.specs.Prelude.{◌≡◌, ◌≢◌, Bool, IfSome, IfNone};
-ghost use Rattle.rm_base.specs.declared.kinds.Kind.{Kind};
-ghost use Rattle.rm_base.specs.declared.kinds.Status.{Status};
-ghost use Rattle.rm_base.specs.declared.kinds.Policy.{Policy};
+ghost use Rattle.rm_base.specs.declared.kinds.{Kind.{Kind}, Status.{Status}, Policy.{Policy}};
 ghost use Rattle.rm_catalog_bytes.specs.Spelling.{flag, status_code, kind_code, policy_code, policy_number};
 
 use rm_base::{Kind, Policy, Status};

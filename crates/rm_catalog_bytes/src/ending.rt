@@ -1,10 +1,8 @@
 //! What ends the fields of a piece and of a set.
 ghost use Rattle.std.specs.Prelude.{◌≡◌, ◌≢◌, ◌+◌, ◌≤◌, ◌<◌, ◌^◌, ◌++◌, ℕ, List, length, OnOk, IfOk, IfErr, IfSome, IfNone, IsUtf8};
-ghost use Rattle.rm_base.specs.Formats.{Reads};
-ghost use Rattle.rm_base.specs.declared.faults.FormatFault.TheVariants.{NoMemory as WithoutMemory};
+ghost use Rattle.rm_base.specs.{Formats.{Reads}, declared.faults.FormatFault.TheVariants.{NoMemory as WithoutMemory}};
+ghost use Rattle.rm_catalog_bytes.specs.{Spelling.{ending_front, ending_bytes}, Fits.{EndingFrontFits, EndingFits}};
 ghost use Rattle.rm_catalog_bytes.specs.declared.ending.Ending.{Ending};
-ghost use Rattle.rm_catalog_bytes.specs.Spelling.{ending_front, ending_bytes};
-ghost use Rattle.rm_catalog_bytes.specs.Fits.{EndingFrontFits, EndingFits};
 
 use crate::codes::{flag, flag_of, status_code, status_of};
 use crate::numbers::{push_u64, take_digest, take_u64};

@@ -1,10 +1,8 @@
 //! What the spelling of records means.
 ghost use Rattle.std.specs.Prelude.{◌≡◌};
 ghost use Rattle.rm_base.specs.Formats.{Reads};
-ghost use Rattle.rm_catalog.specs.Keys.{key_of};
-ghost use Rattle.rm_catalog.specs.declared.record.Record.{Record};
-ghost use Rattle.rm_catalog_bytes.specs.Spelling.{body_of};
-ghost use Rattle.rm_catalog_bytes.specs.Fits.{Fits};
+ghost use Rattle.rm_catalog.specs.{Keys.{key_of}, declared.record.Record.{Record}};
+ghost use Rattle.rm_catalog_bytes.specs.{Spelling.{body_of}, Fits.{Fits}};
 
 use crate::reading::decode_record;
 use crate::writing::encode_record;

@@ -1,17 +1,10 @@
 //! A record from its key and its bytes.
 ghost use Rattle.std.specs.Prelude.{◌≡◌, ◌≢◌, ◌+◌, ◌≤◌, ◌++◌, ℕ, List, length, IfOk, IfSome, IfNone};
 ghost use Rattle.rm_base.specs.Formats.{Reads};
-ghost use Rattle.rm_catalog.specs.Keys.{key_of};
-ghost use Rattle.rm_catalog.specs.declared.record.BaseEntry.{BaseEntry};
-ghost use Rattle.rm_catalog.specs.declared.record.IncarnationEntry.{IncarnationEntry};
-ghost use Rattle.rm_catalog.specs.declared.record.DatafileEntry.{DatafileEntry};
-ghost use Rattle.rm_catalog.specs.declared.record.MarkEntry.{MarkEntry};
-ghost use Rattle.rm_catalog.specs.declared.record.PartEntry.{PartEntry};
-ghost use Rattle.rm_catalog.specs.declared.record.LogEntry.{LogEntry};
-ghost use Rattle.rm_catalog.specs.declared.record.PieceEntry.{PieceEntry};
-ghost use Rattle.rm_catalog.specs.declared.record.HeadEntry.{HeadEntry};
-ghost use Rattle.rm_catalog.specs.declared.record.SwitchEntry.{SwitchEntry};
-ghost use Rattle.rm_catalog.specs.declared.record.Record.{Record};
+ghost use Rattle.rm_catalog.specs.{Keys.{key_of}, declared.record.{BaseEntry.{BaseEntry}, IncarnationEntry.{IncarnationEntry}}};
+ghost use Rattle.rm_catalog.specs.declared.record.{DatafileEntry.{DatafileEntry}, MarkEntry.{MarkEntry}, PartEntry.{PartEntry}};
+ghost use Rattle.rm_catalog.specs.declared.record.{LogEntry.{LogEntry}, PieceEntry.{PieceEntry}, HeadEntry.{HeadEntry}};
+ghost use Rattle.rm_catalog.specs.declared.record.{SwitchEntry.{SwitchEntry}, Record.{Record}};
 ghost use Rattle.rm_catalog_bytes.specs.Spelling.{base_bytes, incarnation_bytes, datafile_bytes, log_bytes, piece_head, piece_ending, piece_bytes, mark_bytes, part_bytes, head_bytes, switch_bytes, body_of};
 ghost use Rattle.rm_catalog_bytes.specs.Fits.{BaseFits, IncarnationFits, DatafileFits, LogFits, PieceFits, PieceHeadFits, MarkFits, PartFits, HeadFits, SwitchFits, Fits};
 

@@ -1,11 +1,8 @@
 //! A backup set as bytes, and from its bytes.
-ghost use Rattle.std.specs.Prelude.{◌≡◌, ◌≢◌, ◌+◌, ◌*◌, ◌≤◌, ◌++◌, ℕ, List, length, All, OnOk, IfOk, IfSome, IfNone};
-ghost use Rattle.std.specs.List.{flat_map};
+ghost use Rattle.std.specs.{Prelude.{◌≡◌, ◌≢◌, ◌+◌, ◌*◌, ◌≤◌, ◌++◌, ℕ, List, length, All, OnOk, IfOk, IfSome, IfNone}, List.{flat_map}};
 ghost use Rattle.rm_base.specs.Formats.{Reads};
-ghost use Rattle.rm_catalog.specs.declared.record.SetEntry.{SetEntry};
-ghost use Rattle.rm_catalog.specs.declared.record.SetPart.{SetPart};
-ghost use Rattle.rm_catalog_bytes.specs.Spelling.{set_part_bytes, set_bytes};
-ghost use Rattle.rm_catalog_bytes.specs.Fits.{SetPartFits, SetFits};
+ghost use Rattle.rm_catalog.specs.declared.record.{SetEntry.{SetEntry}, SetPart.{SetPart}};
+ghost use Rattle.rm_catalog_bytes.specs.{Spelling.{set_part_bytes, set_bytes}, Fits.{SetPartFits, SetFits}};
 
 use crate::codes::{kind_code, kind_of};
 use crate::ending::{Ending, ending_of, push_ending};

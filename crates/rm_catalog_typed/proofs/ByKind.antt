@@ -1,26 +1,14 @@
 -- The records of a catalog, kind by kind.
+use Rattle.std.specs.{Prelude.{IsSome}, List.{filter, filter_map, cons_option}, Option.{option_map}}
 use Rattle.std.proofs.Common.{◌≡◌, ◌∙◌, ℕ, zero, suc, ◌+◌, ◌<◌, ◌≤◌, ◌==◌, inl, inr, Bool, true, false, cond, List, [], ◌∷◌, ◌++◌, Option, Some, None, refl, ap, sym, subst, arith, eq-eqb, map, length, get_or, All, AllPairs, Contains}
-use Rattle.std.specs.Prelude.{IsSome}
-use Rattle.std.specs.List.{filter, filter_map, cons_option}
-use Rattle.std.specs.Option.{option_map}
-use Rattle.std.proofs.lemmas.Bool.{cases_eq, cond-false, cond-true, false≢true, ne_eqb}
-use Rattle.std.proofs.lemmas.Option.{cond_some, none-some, same_Some}
+use Rattle.std.proofs.lemmas.{Bool.{cases_eq, cond-false, cond-true, false≢true, ne_eqb}, Option.{cond_some, none-some, same_Some}}
 use Rattle.std.proofs.lemmas.List.Elements.{Contains-get_or}
-use Rattle.rm_catalog.specs.declared.record.Record.{Record}
-use Rattle.rm_catalog.specs.declared.record.Record.TheVariants as kind
 use Rattle.rm_catalog.specs.Keys.{IsThere, at, base_in, datafile_in, head_in, incarnation_in, key_of, log_in, mark_in, part_in, piece_in, place, place_of, set_in, switch_in}
-use Rattle.rm_catalog.proofs.Filters.{filter_none}
-use Rattle.rm_catalog.proofs.Told.{found_is}
-use Rattle.rm_catalog.proofs.Unique.{Rises, all_above}
-use Rattle.rm_catalog.specs.Rules.{IsCatalog}
-use Rattle.rm_catalog.specs.Trees.{node, nodes}
-use Rattle.rm_catalog.proofs.Numbering.{number_is, rises_catalog}
-use Rattle.rm_catalog.proofs.Trees.{nodes_are}
-use Rattle.rm_catalog_typed.specs.Ledger.{numbered, incarnation_record, datafile_record}
-use Rattle.rm_evidence.specs.Database.{created_by, datafiles}
-use Rattle.rm_evidence.proofs.Files.{datafiles-are, file-number}
-use Rattle.rm_catalog.proofs.Telling.{told-ascends, told-record}
-use Rattle.rm_catalog_typed.specs.Kinds.{by_kind}
+use Rattle.rm_catalog.specs.{Rules.{IsCatalog}, Trees.{node, nodes}, declared.record.Record.{Record, TheVariants as kind}}
+use Rattle.rm_catalog.proofs.{Filters.{filter_none}, Told.{found_is}, Unique.{Rises, all_above}, Numbering.{number_is, rises_catalog}}
+use Rattle.rm_catalog.proofs.{Trees.{nodes_are}, Telling.{told-ascends, told-record}}
+use Rattle.rm_catalog_typed.specs.{Ledger.{numbered, incarnation_record, datafile_record}, Kinds.{by_kind}}
+use Rattle.rm_evidence.{specs.Database.{created_by, datafiles}, proofs.Files.{datafiles-are, file-number}}
 
 -- the number of a record's kind
 abbrev number : Record → ℕ

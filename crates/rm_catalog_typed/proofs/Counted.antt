@@ -1,19 +1,11 @@
 -- Counts and sums over the records of a ledger.
+use Rattle.std.specs.{Prelude.{Contains, IsTrue, count_by, sum_by}, List.{list_any}}
 use Rattle.std.proofs.Common.{◌≡◌, ◌∙◌, ℕ, zero, suc, ◌+◌, ◌<◌, ◌≤◌, Bool, true, false, cond, leb, List, [], ◌∷◌, ◌++◌, length, map, slice_get, Some, refl, ap, sym, arith, eq-eqb, le-ltb}
-use Rattle.std.specs.Prelude.{Contains, IsTrue, count_by, sum_by}
-use Rattle.std.specs.List.{list_any}
-use Rattle.std.proofs.lemmas.Option.{slice_get-get_or}
-use Rattle.std.proofs.lemmas.List.Folds.{list_any_at}
-use Rattle.std.proofs.lemmas.List.Sums.{sum_by-cons, sum_by-append, count_by-le-length}
+use Rattle.std.proofs.lemmas.{Option.{slice_get-get_or}, List.{Folds.{list_any_at}, Sums.{sum_by-cons, sum_by-append, count_by-le-length}}}
 use Rattle.rm_base.specs.declared.block.Mark.{Mark}
 use Rattle.rm_history.specs.declared.world.Datafile.{Datafile}
-use Rattle.rm_catalog.specs.declared.record.Record.{Record}
-use Rattle.rm_catalog.specs.declared.record.Record.TheVariants as kind
-use Rattle.rm_catalog.specs.Keys.{place, place_of}
-use Rattle.rm_catalog.specs.Facts.{is_mark_of, blocks_to}
-use Rattle.rm_catalog.specs.Rules.{IsOnce, IsAmongFirst, lasts_below}
-use Rattle.rm_catalog.proofs.Found.{differ}
-use Rattle.rm_catalog.proofs.Counts.{alike, alike_count}
+use Rattle.rm_catalog.specs.{Keys.{place, place_of}, Facts.{is_mark_of, blocks_to}, Rules.{IsOnce, IsAmongFirst, lasts_below}}
+use Rattle.rm_catalog.{specs.declared.record.Record.{Record, TheVariants as kind}, proofs.{Found.{differ}, Counts.{alike, alike_count}}}
 use Rattle.rm_catalog.proofs.Unique.{Rises, all_above}
 use Rattle.rm_catalog_typed.specs.Ledger.{Ledger, front_records, back_records, ledger_records, numbered, incarnation_record, datafile_record, mark_record, switch_record}
 use Rattle.rm_catalog_typed.specs.LedgerFacts.{IsLedger, HasMark}

@@ -1,36 +1,26 @@
 -- A change that fits keeps the rules.
-use Rattle.std.proofs.Common.{◌≡◌, ◌∙◌, ℕ, ◌+◌, ◌-◌, ◌<◌, ◌≤◌, ◌⊎◌, inl, inr, List, [], ◌∷◌, ◌++◌, Option, Some, None, refl, ap, sym, subst, arith, length, length-append, All, AllPairs, Contains}
 use Rattle.std.specs.Prelude.{IfSome}
-use Rattle.std.proofs.lemmas.Bool.{cases_eq}
-use Rattle.std.proofs.lemmas.List.{length-map, length-set}
+use Rattle.std.proofs.Common.{◌≡◌, ◌∙◌, ℕ, ◌+◌, ◌-◌, ◌<◌, ◌≤◌, ◌⊎◌, inl, inr, List, [], ◌∷◌, ◌++◌, Option, Some, None, refl, ap, sym, subst, arith, length, length-append, All, AllPairs, Contains}
+use Rattle.std.proofs.lemmas.{Bool.{cases_eq}, List.{length-map, length-set}}
 use Rattle.std.proofs.lemmas.List.Elements.{All-contains, All-push, All-weaker, Contains-append_left, Contains-push}
-use Rattle.std.proofs.lemmas.List.Quantifiers.{all_pairs_push}
-use Rattle.std.proofs.lemmas.List.Sums.{sum_by-append, sum_by-cons}
-use Rattle.rm_base.specs.Numbers.{last_moment, last_scn}
-use Rattle.rm_base.specs.declared.block.Mark.{Mark}
-use Rattle.rm_catalog.specs.declared.record.BaseEntry.{BaseEntry}
-use Rattle.rm_catalog.specs.declared.record.LogEntry.{LogEntry}
-use Rattle.rm_catalog.specs.declared.record.PartEntry.{PartEntry}
-use Rattle.rm_catalog.specs.declared.record.PieceEntry.{PieceEntry}
-use Rattle.rm_catalog.specs.declared.record.Record.TheVariants as kind
-use Rattle.rm_catalog.specs.declared.record.SetEntry.{SetEntry}
-use Rattle.rm_history.specs.declared.tree.Incarnation.{Incarnation}
+use Rattle.std.proofs.lemmas.List.{Quantifiers.{all_pairs_push}, Sums.{sum_by-append, sum_by-cons}}
+use Rattle.rm_base.specs.{Numbers.{last_moment, last_scn}, declared.block.Mark.{Mark}}
+use Rattle.rm_catalog.specs.declared.record.{BaseEntry.{BaseEntry}, LogEntry.{LogEntry}, PartEntry.{PartEntry}, PieceEntry.{PieceEntry}}
+use Rattle.rm_catalog.specs.declared.record.{Record.TheVariants as kind, SetEntry.{SetEntry}}
+use Rattle.rm_history.specs.{Tree.{IsThere, parent_of, reset_of, end_of, with_branch, with_end}, declared.tree.Incarnation.{Incarnation}}
 use Rattle.rm_history.specs.declared.world.Datafile.{Datafile}
-use Rattle.rm_history.specs.Tree.{IsThere, parent_of, reset_of, end_of, with_branch, with_end}
 use Rattle.rm_history.proofs.Branches.{IsThere-branched, end_of-branched, end_of-with_branch, length-with_branch, parent_of-branched, parent_of-with_branch, reset_of-branched, reset_of-with_branch}
 use Rattle.rm_history.proofs.Ends.{parent_of-with_end, end_of-with_end, end_of-with_end_other}
 use Rattle.rm_catalog_typed.specs.LedgerFacts.{AreDatafiles, AreIds, AreIncarnations, AreMarks, HasMark, IsBranch, IsCreated, IsLogEntry, IsMark, IsPieceEntry, IsSetEntry}
 use Rattle.rm_catalog_typed.specs.Ledger.{Ledger, back_records, datafile_record, front_records, incarnation_record, ledger_records, mark_record, switch_record}
 use Rattle.rm_catalog_typed.specs.Switches.{ComeInTurn}
-use Rattle.rm_catalog_typed.specs.declared.thread_switch.ThreadSwitch.{ThreadSwitch}
-use Rattle.rm_catalog_typed.proofs.InTurn.{turns_kept, turns_more}
-use Rattle.rm_catalog_typed.proofs.Keeping.{FilesGrow, log_kept, mark_kept, piece_kept, set_kept}
-use Rattle.rm_catalog_typed.proofs.Order.{incarnations_of, datafiles_of, logs_of, pieces_of, marks_of, sets_of, switch_records, length-numbered}
-use Rattle.rm_catalog_typed.proofs.Trees.{Keeps, keeps_branch, keeps_end, parents_below}
 use Rattle.rm_catalog_typed.specs.Changes.{with_base, with_end_at, with_file, with_incarnation, with_log, with_mark, with_new_log, with_new_piece, with_new_set, with_one, with_piece, with_set, with_switch, without_log, without_one, without_piece, without_set}
 use Rattle.rm_catalog_typed.specs.Facts.{IsPartEntry, IsTypedCatalog, IsSaved}
 use Rattle.rm_catalog_typed.specs.Fitting.{FitsBase, FitsBranch, FitsFile, FitsLog, FitsMark, FitsNewLog, FitsNewPiece, FitsNewSet, FitsPiece, FitsSet, FitsSwitch, IsObjectId, LacksId}
-use Rattle.rm_catalog_typed.specs.TypedCatalog.{TypedCatalog, Saved}
+use Rattle.rm_catalog_typed.specs.{TypedCatalog.{TypedCatalog, Saved}, declared.thread_switch.ThreadSwitch.{ThreadSwitch}}
+use Rattle.rm_catalog_typed.proofs.{InTurn.{turns_kept, turns_more}, Keeping.{FilesGrow, log_kept, mark_kept, piece_kept, set_kept}}
+use Rattle.rm_catalog_typed.proofs.Order.{incarnations_of, datafiles_of, logs_of, pieces_of, marks_of, sets_of, switch_records, length-numbered}
+use Rattle.rm_catalog_typed.proofs.Trees.{Keeps, keeps_branch, keeps_end, parents_below}
 use Rattle.rm_catalog_typed.proofs.Ones.{all-with, all-without, ascend-with, ascend-without, contains-with, contains-without, length-replaced, length-with, length-without, with-last}
 
 -- a ledger has the datafiles, incarnations and ids that another has

@@ -1,15 +1,9 @@
 -- A new database has a ledger.
-use Rattle.std.proofs.Common.{◌≡◌, ℕ, ◌<◌, ◌≤◌, [], ◌∷◌, refl, subst, sym, arith}
-use Rattle.std.specs.List.{AllPairs}
+use Rattle.std.{specs.List.{AllPairs}, proofs.Common.{◌≡◌, ℕ, ◌<◌, ◌≤◌, [], ◌∷◌, refl, subst, sym, arith}}
 use Rattle.std.proofs.lemmas.List.Elements.{All-nil, All-cons}
-use Rattle.rm_base.specs.Numbers.{last_scn, last_moment}
-use Rattle.rm_base.specs.declared.block.Mark.{Mark}
-use Rattle.rm_catalog.specs.declared.record.LogEntry.{LogEntry}
-use Rattle.rm_catalog.specs.declared.record.PieceEntry.{PieceEntry}
-use Rattle.rm_catalog.specs.declared.record.SetEntry.{SetEntry}
-use Rattle.rm_history.specs.declared.tree.Incarnation.{Incarnation}
-use Rattle.rm_history.specs.Tree.{IsThere, reset_of, end_of, branched}
-use Rattle.rm_base.proofs.Members.{none-in, in-front}
+use Rattle.rm_base.{specs.{Numbers.{last_scn, last_moment}, declared.block.Mark.{Mark}}, proofs.Members.{none-in, in-front}}
+use Rattle.rm_catalog.specs.declared.record.{LogEntry.{LogEntry}, PieceEntry.{PieceEntry}, SetEntry.{SetEntry}}
+use Rattle.rm_history.specs.{Tree.{IsThere, reset_of, end_of, branched}, declared.tree.Incarnation.{Incarnation}}
 use Rattle.rm_catalog_typed.specs.LedgerFacts.{IsLedger, AreIncarnations, IsCreated, IsLogEntry, IsPieceEntry, IsSetEntry, AreMarks, IsMark}
 use Rattle.rm_catalog_typed.specs.Fresh.{fresh}
 

@@ -1,18 +1,12 @@
 -- Switches that come in turn: they do where a tree grows, where one more comes next, and what follows of each.
-use Rattle.std.proofs.Common.{◌≡◌, ◌∙◌, ℕ, ◌<◌, ◌≤◌, ◌==◌, ◌&&◌, ◌||◌, inl, inr, Bool, true, false, cond, fold, List, [], ◌∷◌, ◌++◌, get_or, map, sym, subst, arith, take, All}
 use Rattle.std.specs.Prelude.{not}
-use Rattle.std.proofs.lemmas.List.{take-append-le, take_at}
-use Rattle.std.proofs.lemmas.List.Elements.{All-head, All-tail}
-use Rattle.std.proofs.lemmas.Option.{slice_get-get_or, slice_get_within}
+use Rattle.std.proofs.Common.{◌≡◌, ◌∙◌, ℕ, ◌<◌, ◌≤◌, ◌==◌, ◌&&◌, ◌||◌, inl, inr, Bool, true, false, cond, fold, List, [], ◌∷◌, ◌++◌, get_or, map, sym, subst, arith, take, All}
+use Rattle.std.proofs.lemmas.{List.{take-append-le, take_at, Elements.{All-head, All-tail}}, Option.{slice_get-get_or, slice_get_within}}
 use Rattle.rm_base.proofs.Slots.{get-push}
-use Rattle.rm_history.specs.declared.tree.Incarnation.{Incarnation}
-use Rattle.rm_history.specs.Tree.{IsThere}
-use Rattle.rm_history.proofs.Enabled.{enabled-alike}
-use Rattle.rm_catalog_typed.specs.Ledger.{Ledger}
-use Rattle.rm_catalog_typed.specs.LedgerFacts.{AreIncarnations, IsLedger}
+use Rattle.rm_history.{specs.{Tree.{IsThere}, declared.tree.Incarnation.{Incarnation}}, proofs.Enabled.{enabled-alike}}
+use Rattle.rm_catalog_typed.specs.{Ledger.{Ledger}, LedgerFacts.{AreIncarnations, IsLedger}}
 use Rattle.rm_catalog_typed.specs.Switches.{ComeInTurn, IsNextSwitch, after_sequence, enabled_by, next_sequence, switch_of}
-use Rattle.rm_catalog_typed.specs.declared.thread_switch.ThreadSwitch.{ThreadSwitch}
-use Rattle.rm_catalog_typed.proofs.Trees.{Keeps}
+use Rattle.rm_catalog_typed.{specs.declared.thread_switch.ThreadSwitch.{ThreadSwitch}, proofs.Trees.{Keeps}}
 
 enabled_kept : (old new : List Incarnation) (threads : ℕ) (xs : List ThreadSwitch) (m g t : ℕ) → Keeps old new → IsThere old m → enabled_by new threads xs m g t ≡ enabled_by old threads xs m g t
 enabled_kept old new threads xs m g t keeps there = enabled-alike new old threads (map switch_of xs) m m g t (λ c low. keeps.owners m c there)

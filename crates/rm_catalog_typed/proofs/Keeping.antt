@@ -1,20 +1,12 @@
 -- What is true of records stays true where a tree and the datafiles grow.
+use Rattle.std.specs.{Prelude.{Contains}, List.{AllPairs}}
 use Rattle.std.proofs.Common.{◌≡◌, ◌∙◌, ℕ, ◌-◌, ◌≤◌, ◌⊎◌, inl, inr, List, [], ◌∷◌, ◌++◌, Some, length, get_or, slice_get, refl, ap, sym, subst, arith, length-append}
-use Rattle.std.specs.Prelude.{Contains}
-use Rattle.std.specs.List.{AllPairs}
-use Rattle.std.proofs.lemmas.Bool.{cases_lt}
-use Rattle.std.proofs.lemmas.List.{get_or_append_left, get_or-append_right}
-use Rattle.std.proofs.lemmas.List.Elements.{All-weaker, Contains-get_or}
+use Rattle.std.proofs.lemmas.{Bool.{cases_lt}, List.{get_or_append_left, get_or-append_right, Elements.{All-weaker, Contains-get_or}}}
 use Rattle.std.proofs.lemmas.Option.{slice_get_within}
-use Rattle.rm_base.specs.declared.block.Mark.{Mark}
-use Rattle.rm_catalog.specs.declared.record.LogEntry.{LogEntry}
-use Rattle.rm_catalog.specs.declared.record.PieceEntry.{PieceEntry}
-use Rattle.rm_catalog.specs.declared.record.SetEntry.{SetEntry}
-use Rattle.rm_history.specs.declared.tree.Incarnation.{Incarnation}
-use Rattle.rm_history.specs.declared.world.Datafile.{Datafile}
-use Rattle.rm_base.proofs.Members.{slice_get-front}
-use Rattle.rm_catalog_typed.specs.LedgerFacts.{IsLogEntry, IsMark, IsPieceEntry, IsSetEntry, IsSetPart}
-use Rattle.rm_catalog_typed.proofs.Trees.{Keeps}
+use Rattle.rm_base.{specs.declared.block.Mark.{Mark}, proofs.Members.{slice_get-front}}
+use Rattle.rm_catalog.specs.declared.record.{LogEntry.{LogEntry}, PieceEntry.{PieceEntry}, SetEntry.{SetEntry}}
+use Rattle.rm_history.specs.declared.{tree.Incarnation.{Incarnation}, world.Datafile.{Datafile}}
+use Rattle.rm_catalog_typed.{specs.LedgerFacts.{IsLogEntry, IsMark, IsPieceEntry, IsSetEntry, IsSetPart}, proofs.Trees.{Keeps}}
 
 -- a log's entry keeps its facts
 pub log_kept : (old new : List Incarnation) → Keeps old new → (e : LogEntry) → IsLogEntry old e → IsLogEntry new e

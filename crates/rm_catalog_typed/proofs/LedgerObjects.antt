@@ -1,23 +1,15 @@
 -- The logs, the pieces and the sets of a ledger obey their rules.
-use Rattle.std.proofs.Common.{◌≡◌, ◌∙◌, ℕ, ◌+◌, ◌-◌, ◌<◌, ◌≤◌, Option, Some, ap, sym, subst, arith, slice_get}
 use Rattle.std.specs.Prelude.{Contains, IsSomeAnd}
+use Rattle.std.proofs.Common.{◌≡◌, ◌∙◌, ℕ, ◌+◌, ◌-◌, ◌<◌, ◌≤◌, Option, Some, ap, sym, subst, arith, slice_get}
 use Rattle.std.proofs.lemmas.List.Elements.{All-contains, All-weaker}
-use Rattle.rm_history.specs.declared.world.Datafile.{Datafile}
-use Rattle.rm_history.specs.Tree.{IsThere}
-use Rattle.rm_catalog.specs.declared.record.DatafileEntry.{DatafileEntry}
-use Rattle.rm_catalog.specs.declared.record.LogEntry.{LogEntry}
-use Rattle.rm_catalog.specs.declared.record.PieceEntry.{PieceEntry}
-use Rattle.rm_catalog.specs.declared.record.SetEntry.{SetEntry}
-use Rattle.rm_catalog.specs.declared.record.SetPart.{SetPart}
-use Rattle.rm_catalog.specs.Keys.{datafile}
-use Rattle.rm_catalog.specs.Objects.{IdRule, IsRange, LogRule, FitsDatafile, PieceRule}
-use Rattle.rm_catalog.specs.SetRules.{FitsSetFile, SetPartRule, SetRule}
+use Rattle.rm_history.specs.{Tree.{IsThere}, declared.world.Datafile.{Datafile}}
+use Rattle.rm_catalog.specs.{Keys.{datafile}, Objects.{IdRule, IsRange, LogRule, FitsDatafile, PieceRule}}
+use Rattle.rm_catalog.specs.{SetRules.{FitsSetFile, SetPartRule, SetRule}, declared.record.DatafileEntry.{DatafileEntry}}
+use Rattle.rm_catalog.specs.declared.record.{LogEntry.{LogEntry}, PieceEntry.{PieceEntry}, SetEntry.{SetEntry}, SetPart.{SetPart}}
 use Rattle.rm_catalog.proofs.ByKinds.{all-free, own-free}
-use Rattle.rm_catalog_typed.specs.Ledger.{Ledger, ledger_records}
-use Rattle.rm_catalog_typed.specs.LedgerFacts.{IsLedger, IsLogEntry, IsPieceEntry, IsSetEntry, IsSetPart}
+use Rattle.rm_catalog_typed.specs.{Ledger.{Ledger, ledger_records}, LedgerFacts.{IsLedger, IsLogEntry, IsPieceEntry, IsSetEntry, IsSetPart}}
 use Rattle.rm_catalog_typed.proofs.Lookups.{datafile_entry, datafile-found, log-id-within, no-log, no-part, no-piece, no-set, piece-id-within, set-id-within}
-use Rattle.rm_catalog_typed.proofs.Paths.{path-is}
-use Rattle.rm_catalog_typed.proofs.LedgerThings.{on-incarnation}
+use Rattle.rm_catalog_typed.proofs.{Paths.{path-is}, LedgerThings.{on-incarnation}}
 
 log-id : (l : Ledger) (e : LogEntry) → IsLedger l → Contains l.logs e → IdRule (ledger_records l) 4 e.id
 log-id l e is has =

@@ -1,25 +1,17 @@
 -- The base facts, the incarnations, the datafiles, the marks and the switches of a ledger obey their rules.
-use Rattle.std.proofs.Common.{◌≡◌, ◌∙◌, ℕ, ◌+◌, ◌-◌, ◌<◌, ◌≤◌, length, get_or, slice_get, Option, Some, refl, ap, sym, subst, arith}
 use Rattle.std.specs.Prelude.{IsSome, IsSomeAnd}
+use Rattle.std.proofs.Common.{◌≡◌, ◌∙◌, ℕ, ◌+◌, ◌-◌, ◌<◌, ◌≤◌, length, get_or, slice_get, Option, Some, refl, ap, sym, subst, arith}
 use Rattle.std.proofs.lemmas.Option.{get_or_from_slice_get, slice_get_within}
-use Rattle.rm_base.specs.declared.block.Mark.{Mark}
-use Rattle.rm_base.proofs.Slots.{all-get}
-use Rattle.rm_history.specs.Tree.{IsThere, parent_of}
-use Rattle.rm_history.specs.declared.world.Datafile.{Datafile}
-use Rattle.rm_catalog.specs.declared.record.IncarnationEntry.{IncarnationEntry}
-use Rattle.rm_catalog.specs.declared.record.MarkEntry.{MarkEntry}
-use Rattle.rm_catalog.specs.declared.record.Record.{Record}
-use Rattle.rm_catalog.specs.Keys.{place, at, incarnation, mark}
-use Rattle.rm_catalog.specs.Keys.{IsThere as HasKey}
+use Rattle.rm_base.{specs.declared.block.Mark.{Mark}, proofs.Slots.{all-get}}
+use Rattle.rm_history.specs.{Tree.{IsThere, parent_of}, declared.world.Datafile.{Datafile}}
+use Rattle.rm_catalog.specs.Keys.{place, at, incarnation, mark, IsThere as HasKey}
 use Rattle.rm_catalog.specs.Facts.{BaseRule, IncarnationRule, BranchRule, BeginsOn, DatafileRule, IsCreatedOn, MarkRule, IsWithin}
-use Rattle.rm_catalog.specs.Switches.{IsAt, SwitchRule}
-use Rattle.rm_catalog_typed.specs.Ledger.{Ledger, ledger_records}
-use Rattle.rm_catalog_typed.specs.LedgerFacts.{IsLedger, IsCreated, IsMark}
+use Rattle.rm_catalog.specs.{Switches.{IsAt, SwitchRule}, declared.record.{IncarnationEntry.{IncarnationEntry}, MarkEntry.{MarkEntry}}}
+use Rattle.rm_catalog.specs.declared.record.Record.{Record}
+use Rattle.rm_catalog_typed.specs.{Ledger.{Ledger, ledger_records}, LedgerFacts.{IsLedger, IsCreated, IsMark}}
 use Rattle.rm_catalog_typed.specs.declared.thread_switch.ThreadSwitch.{ThreadSwitch}
 use Rattle.rm_catalog_typed.proofs.Lookups.{entry_of, datafile_entry, mark_entry, switch_entry, item-at, incarnation-there, incarnation-found, datafile-at, mark-found, no-switch, switch-at}
-use Rattle.rm_catalog_typed.proofs.Paths.{path-is}
-use Rattle.rm_catalog_typed.proofs.Turns.{Tells, rule-from}
-use Rattle.rm_catalog_typed.proofs.Counted.{blocks-few, marked}
+use Rattle.rm_catalog_typed.proofs.{Paths.{path-is}, Turns.{Tells, rule-from}, Counted.{blocks-few, marked}}
 
 -- what is true of an incarnation that is there is true of its record
 pub on-incarnation : (l : Ledger) (i : ℕ) (P : IncarnationEntry → Type 0) → IsLedger l → IsThere l.tree i → P (entry_of l.tree i) → IsSomeAnd (incarnation i (ledger_records l)) P

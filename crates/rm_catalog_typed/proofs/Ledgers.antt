@@ -1,25 +1,14 @@
 -- The records of a catalog tell a ledger.
-use Rattle.std.proofs.Common.{◌≡◌, ◌∙◌, ℕ, suc, ◌-◌, ◌<◌, ◌≤◌, Bool, cond, List, [], ◌∷◌, length, get_or, map, refl, ap, sym, subst, arith, All, Contains}
 use Rattle.std.specs.Prelude.{sum_by}
-use Rattle.std.proofs.lemmas.Bool.{le-leb}
-use Rattle.std.proofs.lemmas.List.{length-map}
-use Rattle.std.proofs.lemmas.List.Elements.{All-map, Contains-get_or}
-use Rattle.std.proofs.lemmas.List.Sums.{sum_by-cons}
-use Rattle.rm_history.specs.declared.world.Datafile.{Datafile}
-use Rattle.rm_history.specs.Tree.{IsThere, parent_of, reset_of, end_of}
-use Rattle.rm_catalog.specs.declared.record.DatafileEntry.{DatafileEntry}
-use Rattle.rm_catalog.specs.declared.record.Record.{Record}
-use Rattle.rm_catalog.specs.declared.record.Record.TheVariants as records
-use Rattle.rm_catalog.specs.Facts.{BeginsOn, IsCreatedOn, blocks_to}
-use Rattle.rm_catalog.specs.Rules.{HasDatabase, IsCatalog}
-use Rattle.rm_catalog.specs.Trees.{nodes}
+use Rattle.std.proofs.Common.{◌≡◌, ◌∙◌, ℕ, suc, ◌-◌, ◌<◌, ◌≤◌, Bool, cond, List, [], ◌∷◌, length, get_or, map, refl, ap, sym, subst, arith, All, Contains}
+use Rattle.std.proofs.lemmas.{Bool.{le-leb}, List.{length-map, Elements.{All-map, Contains-get_or}, Sums.{sum_by-cons}}}
+use Rattle.rm_history.specs.{Tree.{IsThere, parent_of, reset_of, end_of}, declared.world.Datafile.{Datafile}}
+use Rattle.rm_catalog.specs.{Facts.{BeginsOn, IsCreatedOn, blocks_to}, Rules.{HasDatabase, IsCatalog}, Trees.{nodes}}
+use Rattle.rm_catalog.specs.declared.record.{DatafileEntry.{DatafileEntry}, Record.{Record, TheVariants as records}}
 use Rattle.rm_catalog.proofs.Trees.{few_nodes, some_node}
-use Rattle.rm_evidence.specs.Database.{created_by, datafiles}
-use Rattle.rm_evidence.proofs.Files.{entries, datafiles-are, entry-record, file-number}
-use Rattle.rm_evidence.proofs.Found.{datafile-rule}
-use Rattle.rm_evidence.proofs.DatabaseWorlds.{entry-of, parent-is, reset-is}
-use Rattle.rm_catalog_typed.specs.LedgerFacts.{AreDatafiles, AreIncarnations, IsBranch, IsCreated}
-use Rattle.rm_catalog_typed.proofs.Told.{end-is, on-incarnation}
+use Rattle.rm_evidence.{specs.Database.{created_by, datafiles}, proofs.Files.{entries, datafiles-are, entry-record, file-number}}
+use Rattle.rm_evidence.proofs.{Found.{datafile-rule}, DatabaseWorlds.{entry-of, parent-is, reset-is}}
+use Rattle.rm_catalog_typed.{specs.LedgerFacts.{AreDatafiles, AreIncarnations, IsBranch, IsCreated}, proofs.Told.{end-is, on-incarnation}}
 
 -- the incarnations
 branch : (rs : List Record) (i : ℕ) → IsCatalog rs → IsThere (nodes rs) i → 1 < i → IsBranch (nodes rs) i

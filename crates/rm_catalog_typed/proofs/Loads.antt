@@ -1,34 +1,19 @@
 -- A catalog's records are those of a typed catalog.
+use Rattle.std.specs.{Prelude.{◌&&◌, count_by}, List.{filter, filter_map}}
 use Rattle.std.proofs.Common.{◌≡◌, ◌≢◌, ◌∙◌, ℕ, zero, suc, ◌+◌, ◌-◌, ◌<◌, ◌≤◌, inl, inr, Bool, true, false, cond, ltb, List, [], ◌∷◌, ◌++◌, length, get_or, map, Option, Some, None, refl, ap, sym, subst, arith, All, Contains}
-use Rattle.std.specs.Prelude.{◌&&◌, count_by}
-use Rattle.std.specs.List.{filter, filter_map}
-use Rattle.std.proofs.lemmas.Bool.{lt-ltb}
-use Rattle.std.proofs.lemmas.Bool.Decides.{nat_tests}
-use Rattle.std.proofs.lemmas.List.{append-nil, append_assoc}
-use Rattle.std.proofs.lemmas.List.Elements.{All-map, All-nil, All-push, Contains-get_or, filter-append}
-use Rattle.std.proofs.lemmas.List.Sums.{sum_by-cons}
-use Rattle.rm_base.proofs.Lists.{filter_from}
-use Rattle.rm_catalog.proofs.Filters.{filter_all, filter_none}
-use Rattle.rm_catalog.specs.declared.record.BaseEntry.{BaseEntry}
-use Rattle.rm_catalog.specs.declared.record.HeadEntry.{HeadEntry}
-use Rattle.rm_catalog.specs.declared.record.PartEntry.{PartEntry}
-use Rattle.rm_catalog.specs.declared.record.Record.{Record}
-use Rattle.rm_catalog.specs.declared.record.Record.TheVariants as records
-use Rattle.rm_catalog.specs.Keys.{base, base_in, head_in, part_in, place_of, set_in, switch_in}
-use Rattle.rm_catalog.specs.Rules.{IsCatalog, is_lasting}
-use Rattle.rm_catalog.proofs.ByKinds.{lasting-place}
-use Rattle.rm_catalog.proofs.Numbering.{rises_catalog}
-use Rattle.rm_base.proofs.Members.{none-in}
-use Rattle.rm_catalog.proofs.Unique.{Rises, all_above}
+use Rattle.std.proofs.lemmas.{Bool.{lt-ltb, Decides.{nat_tests}}, List.{append-nil, append_assoc}}
+use Rattle.std.proofs.lemmas.List.{Elements.{All-map, All-nil, All-push, Contains-get_or, filter-append}, Sums.{sum_by-cons}}
+use Rattle.rm_base.proofs.{Lists.{filter_from}, Members.{none-in}}
+use Rattle.rm_catalog.specs.{Keys.{base, base_in, head_in, part_in, place_of, set_in, switch_in}, Rules.{IsCatalog, is_lasting}}
+use Rattle.rm_catalog.specs.declared.record.{BaseEntry.{BaseEntry}, HeadEntry.{HeadEntry}, PartEntry.{PartEntry}, Record.{Record}}
+use Rattle.rm_catalog.{specs.declared.record.Record.TheVariants as records, proofs.Filters.{filter_all, filter_none}}
+use Rattle.rm_catalog.proofs.{ByKinds.{lasting-place}, Numbering.{rises_catalog}, Unique.{Rises, all_above}, Telling.{record-told}}
 use Rattle.rm_evidence.proofs.Found.{obeys}
-use Rattle.rm_catalog.proofs.Telling.{record-told}
 use Rattle.rm_catalog_typed.specs.LedgerFacts.{IsLedger}
 use Rattle.rm_catalog_typed.specs.Ledger.{Ledger, back_records, front_records, ledger_records, numbered, switch_record}
-use Rattle.rm_catalog_typed.proofs.Lookups.{IsOwn, apart-from-site, record-own}
 use Rattle.rm_catalog_typed.specs.Kinds.{AreSmall, by_kind, ledger_in, saved_in, switched_by, typed_catalog_in}
-use Rattle.rm_catalog_typed.specs.TypedCatalog.{Saved, records_of, saved_records}
-use Rattle.rm_catalog_typed.proofs.ByKind.{files-told, is-head, kinds, placed, tree-told}
-use Rattle.rm_catalog_typed.proofs.Marks.{marks-told}
+use Rattle.rm_catalog_typed.{specs.TypedCatalog.{Saved, records_of, saved_records}, proofs.Lookups.{IsOwn, apart-from-site, record-own}}
+use Rattle.rm_catalog_typed.proofs.{ByKind.{files-told, is-head, kinds, placed, tree-told}, Marks.{marks-told}}
 use Rattle.rm_catalog_typed.proofs.Told.{AtMostOne, base-record, base-rule, key-there, bases-few, has-key, head-alone, heads-few, one-alone, part-rule}
 use Rattle.rm_catalog_typed.proofs.Ledgers.{datafiles-fit, incarnations}
 use Rattle.rm_catalog_typed.proofs.Things.{base-fits, ids-fit, logs-fit, marks-fit, pieces-fit, sets-fit}

@@ -1,31 +1,18 @@
 -- What the records of a ledger are, and what is found at each place.
+use Rattle.std.specs.{Prelude.{Contains, IsSome, option_and_then}, Option.{option_map_or}}
 use Rattle.std.proofs.Common.{◌≡◌, ◌≢◌, ◌∙◌, Bool, cond, ℕ, zero, suc, ◌+◌, ◌-◌, ◌<◌, ◌≤◌, ◌⊎◌, inl, inr, List, [], ◌∷◌, ◌++◌, length, map, slice_get, Option, Some, None, refl, ap, sym, subst, arith, All}
-use Rattle.std.specs.Prelude.{Contains, IsSome, option_and_then}
-use Rattle.std.specs.Option.{option_map_or}
-use Rattle.std.proofs.lemmas.Bool.{ne_eqb}
-use Rattle.std.proofs.lemmas.Option.{same_Some, slice_get_within}
+use Rattle.std.proofs.lemmas.{Bool.{ne_eqb}, Option.{same_Some, slice_get_within}}
 use Rattle.std.proofs.lemmas.List.Elements.{All-nil, All-cons, All-append, All-map, All-contains, Contains-get_or, Contains-append_left, Contains-append_right}
 use Rattle.rm_base.specs.declared.block.Mark.{Mark}
-use Rattle.rm_history.specs.declared.tree.Incarnation.{Incarnation}
+use Rattle.rm_history.specs.{Tree.{IsThere, parent_of, reset_of, end_of, incarnation as in_tree}, declared.tree.Incarnation.{Incarnation}}
 use Rattle.rm_history.specs.declared.world.Datafile.{Datafile}
-use Rattle.rm_history.specs.Tree.{IsThere, parent_of, reset_of, end_of}
-use Rattle.rm_history.specs.Tree.{incarnation as in_tree}
-use Rattle.rm_catalog.specs.declared.record.BaseEntry.{BaseEntry}
-use Rattle.rm_catalog.specs.declared.record.DatafileEntry.{DatafileEntry}
-use Rattle.rm_catalog.specs.declared.record.IncarnationEntry.{IncarnationEntry}
-use Rattle.rm_catalog.specs.declared.record.LogEntry.{LogEntry}
-use Rattle.rm_catalog.specs.declared.record.MarkEntry.{MarkEntry}
-use Rattle.rm_catalog.specs.declared.record.PieceEntry.{PieceEntry}
-use Rattle.rm_catalog.specs.declared.record.Record.{Record}
-use Rattle.rm_catalog.specs.declared.record.SetEntry.{SetEntry}
-use Rattle.rm_catalog.specs.declared.record.SwitchEntry.{SwitchEntry}
-use Rattle.rm_catalog.specs.declared.record.Record.TheVariants as kind
-use Rattle.rm_catalog.specs.Keys.{place, place_of, at, incarnation, datafile, mark, incarnation_in, datafile_in, log_in, mark_in, part_in, piece_in, set_in, switch_in}
-use Rattle.rm_catalog.specs.Keys.{IsThere as HasKey}
+use Rattle.rm_catalog.specs.Keys.{place, place_of, at, incarnation, datafile, mark, incarnation_in, datafile_in, log_in, mark_in, part_in, piece_in, set_in, switch_in, IsThere as HasKey}
+use Rattle.rm_catalog.specs.declared.record.{BaseEntry.{BaseEntry}, DatafileEntry.{DatafileEntry}, IncarnationEntry.{IncarnationEntry}}
+use Rattle.rm_catalog.specs.declared.record.{LogEntry.{LogEntry}, MarkEntry.{MarkEntry}, PieceEntry.{PieceEntry}, Record.{Record}}
+use Rattle.rm_catalog.specs.declared.record.{SetEntry.{SetEntry}, SwitchEntry.{SwitchEntry}, Record.TheVariants as kind}
 use Rattle.rm_catalog.proofs.Unique.{in_tail}
 use Rattle.rm_catalog_typed.specs.Ledger.{Ledger, front_records, back_records, ledger_records, numbered, incarnation_record, datafile_record, mark_record, switch_record}
-use Rattle.rm_catalog_typed.specs.LedgerFacts.{IsLedger}
-use Rattle.rm_catalog_typed.specs.declared.thread_switch.ThreadSwitch.{ThreadSwitch}
+use Rattle.rm_catalog_typed.specs.{LedgerFacts.{IsLedger}, declared.thread_switch.ThreadSwitch.{ThreadSwitch}}
 use Rattle.rm_catalog_typed.proofs.ByKind.{IsKind, is-incarnation, is-log, is-part, is-piece, is-set, is-switch, placed}
 use Rattle.rm_catalog_typed.proofs.Order.{incarnations_of, datafiles_of, logs_of, pieces_of, marks_of, sets_of, switch_records, record-found}
 

@@ -1,23 +1,13 @@
 -- The marks of a catalog have the numbers 1, 2, 3 and so on, and their moments do not fall.
+use Rattle.std.specs.{Prelude.{IsSomeAnd, option_and_then}, List.{filter_map, Sorted.{IsNonDecreasingBy}}}
 use Rattle.std.proofs.Common.{◌≡◌, ◌∙◌, ℕ, ◌+◌, ◌-◌, ◌<◌, ◌≤◌, List, length, get_or, map, Option, Some, None, refl, ap, sym, arith, Contains, AllPairs}
-use Rattle.std.specs.Prelude.{IsSomeAnd, option_and_then}
-use Rattle.std.specs.List.{filter_map}
-use Rattle.std.proofs.lemmas.List.{get_or_default}
-use Rattle.std.specs.List.Sorted.{IsNonDecreasingBy}
-use Rattle.std.proofs.lemmas.List.Elements.{All-contains, Contains-get_or}
-use Rattle.std.proofs.lemmas.List.Sorted.{IsNonDecreasingBy-from_all_adjacent}
-use Rattle.rm_catalog.specs.declared.record.MarkEntry.{MarkEntry}
-use Rattle.rm_catalog.specs.declared.record.Record.{Record}
-use Rattle.rm_catalog.specs.declared.record.Record.TheVariants as records
-use Rattle.rm_catalog.specs.Keys.{place, place_of, at, mark_in}
-use Rattle.rm_catalog.specs.Facts.{MarkRule}
-use Rattle.rm_catalog.specs.Rules.{IsCatalog}
-use Rattle.rm_catalog.proofs.Told.{found_is}
-use Rattle.rm_catalog_typed.specs.Ledger.{numbered, mark_record}
-use Rattle.rm_evidence.proofs.Found.{obeys}
+use Rattle.std.proofs.lemmas.List.{get_or_default, Elements.{All-contains, Contains-get_or}, Sorted.{IsNonDecreasingBy-from_all_adjacent}}
+use Rattle.rm_catalog.specs.{Keys.{place, place_of, at, mark_in}, Facts.{MarkRule}, Rules.{IsCatalog}}
+use Rattle.rm_catalog.{specs.declared.record.{MarkEntry.{MarkEntry}, Record.{Record, TheVariants as records}}, proofs.Told.{found_is}}
 use Rattle.rm_catalog.proofs.Telling.{record-told, HasNoGap, numbers-are}
-use Rattle.rm_catalog_typed.specs.Kinds.{AreSmall, IsSmall, marked_by}
+use Rattle.rm_catalog_typed.specs.{Ledger.{numbered, mark_record}, Kinds.{AreSmall, IsSmall, marked_by}}
 use Rattle.rm_catalog_typed.proofs.ByKind.{is-mark, made, numbered-by, told-in-order, told-is}
+use Rattle.rm_evidence.proofs.Found.{obeys}
 
 -- what the marks among the records say, in order
 abbrev pub entries : List Record → List MarkEntry

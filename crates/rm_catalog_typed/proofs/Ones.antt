@@ -1,17 +1,11 @@
 -- What holds of objects that ascend by id, after one is put among them or taken away.
-use Rattle.std.proofs.Common.{◌++◌, ◌≡◌, ◌∙◌, ℕ, ◌+◌, ◌<◌, ◌≤◌, List, [], ◌∷◌, refl, ap, sym, subst, arith, get_or, length, length-append, All, AllPairs, Contains}
 use Rattle.std.specs.Prelude.{true, cond, nat_lt, not}
-use Rattle.std.proofs.lemmas.Bool.{ltb-true}
-use Rattle.std.proofs.lemmas.Bool.Decides.{nat_tests}
-use Rattle.std.proofs.lemmas.List.{drop_all, length-set}
-use Rattle.std.proofs.lemmas.List.Edits.{insert_end}
+use Rattle.std.proofs.Common.{◌++◌, ◌≡◌, ◌∙◌, ℕ, ◌+◌, ◌<◌, ◌≤◌, List, [], ◌∷◌, refl, ap, sym, subst, arith, get_or, length, length-append, All, AllPairs, Contains}
+use Rattle.std.proofs.lemmas.{Bool.{ltb-true, Decides.{nat_tests}}, List.{drop_all, length-set, Edits.{insert_end}}}
 use Rattle.std.proofs.lemmas.List.Elements.{All-append, All-cons, All-contains, All-filter, All-nil, All-take, All-weaker, Contains-get_or, filter_passes}
-use Rattle.std.proofs.lemmas.List.Filters.{length-filter_both}
-use Rattle.std.proofs.lemmas.List.Kept.{AllPairs-cons, AllPairs-filter}
+use Rattle.std.proofs.lemmas.List.{Filters.{length-filter_both}, Kept.{AllPairs-cons, AllPairs-filter}}
 use Rattle.std.proofs.lemmas.List.Sums.{length-filter, sum_by-le-sum_by}
-use Rattle.rm_catalog_typed.proofs.Keeping.{pairs_append}
-use Rattle.rm_catalog_typed.specs.Changes.{higher, lower, with_one, without_one}
-use Rattle.rm_catalog_typed.specs.Fitting.{HasId}
+use Rattle.rm_catalog_typed.{specs.{Changes.{higher, lower, with_one, without_one}, Fitting.{HasId}}, proofs.Keeping.{pairs_append}}
 use Rattle.rm_catalog_typed.proofs.Splits.{gap-for-one, place-of-one}
 
 module _ {A : Type 0} (id : A → ℕ) where

@@ -2,14 +2,10 @@
 use Rattle.std.proofs.Common.{◌≡◌, ◌∙◌, ℕ, suc, ◌+◌, ◌<◌, ◌≤◌, List, [], ◌∷◌, ◌++◌, length, map, refl, ap, sym, subst, arith, All}
 use Rattle.std.proofs.lemmas.List.{append-nil, append_assoc, get_or-append-add, length-append}
 use Rattle.std.proofs.lemmas.List.Elements.{All-nil, All-cons, All-append, All-map}
-use Rattle.rm_catalog.specs.declared.record.Record.{Record}
-use Rattle.rm_catalog.specs.declared.record.Edit.{Edit}
-use Rattle.rm_catalog.specs.declared.record.Edit.TheVariants.{Put, Drop}
-use Rattle.rm_catalog.specs.Keys.{place_of, place_of_key}
-use Rattle.rm_catalog.specs.Edits.{below, above, place_of_edit, after_edit, after_edits}
+use Rattle.rm_catalog.specs.{Keys.{place_of, place_of_key}, Edits.{below, above, place_of_edit, after_edit, after_edits}}
+use Rattle.rm_catalog.specs.declared.record.{Record.{Record}, Edit.{Edit, TheVariants.{Put, Drop}}}
 use Rattle.rm_catalog.proofs.Filters.{after_both, below_all, below_none, below_append, above_all, above_none, above_append}
-use Rattle.rm_catalog.proofs.Passing.{after_append, put_last}
-use Rattle.rm_catalog.proofs.Unique.{Rises, all_above, middle}
+use Rattle.rm_catalog.proofs.{Passing.{after_append, put_last}, Unique.{Rises, all_above, middle}}
 use Rattle.rm_catalog_typed.proofs.Order.{Runs, runs-within, runs-rise}
 
 -- an edit above what stands in front leaves that alone

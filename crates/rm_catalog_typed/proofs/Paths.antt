@@ -1,18 +1,11 @@
 -- The path over the records of a ledger is the path of its tree.
+use Rattle.std.specs.{Prelude.{IsSome, option_and_then}, Option.{option_map_or}}
 use Rattle.std.proofs.Common.{◌≡◌, ◌∙◌, ℕ, zero, suc, ◌≤◌, leb, cond, length, Option, Some, None, refl, ap, sym, subst, arith}
-use Rattle.std.specs.Prelude.{IsSome, option_and_then}
-use Rattle.std.specs.Option.{option_map_or}
-use Rattle.rm_history.specs.Tree.{IsThere, parent_of, reset_of, owner}
-use Rattle.rm_history.proofs.Owners.{owner-step, owner-none}
-use Rattle.rm_catalog.specs.declared.record.IncarnationEntry.{IncarnationEntry}
-use Rattle.rm_catalog.specs.declared.record.Record.{Record}
-use Rattle.rm_catalog.specs.Keys.{place, at, incarnation, incarnation_in}
-use Rattle.rm_catalog.specs.Keys.{IsThere as HasKey}
-use Rattle.rm_catalog.specs.Objects.{owner_in}
-use Rattle.rm_catalog_typed.specs.Ledger.{Ledger, ledger_records}
-use Rattle.rm_catalog_typed.specs.LedgerFacts.{IsLedger}
-use Rattle.rm_catalog_typed.proofs.Lookups.{incarnation-found, no-incarnation}
-use Rattle.rm_catalog_typed.proofs.Trees.{parents_below}
+use Rattle.rm_history.{specs.Tree.{IsThere, parent_of, reset_of, owner}, proofs.Owners.{owner-step, owner-none}}
+use Rattle.rm_catalog.specs.{Keys.{place, at, incarnation, incarnation_in, IsThere as HasKey}, Objects.{owner_in}}
+use Rattle.rm_catalog.specs.declared.record.{IncarnationEntry.{IncarnationEntry}, Record.{Record}}
+use Rattle.rm_catalog_typed.specs.{Ledger.{Ledger, ledger_records}, LedgerFacts.{IsLedger}}
+use Rattle.rm_catalog_typed.proofs.{Lookups.{incarnation-found, no-incarnation}, Trees.{parents_below}}
 
 -- without a path the owner is 1
 path-none : (l : Ledger) (most g : ℕ) → owner_in most 0 g (ledger_records l) ≡ 1

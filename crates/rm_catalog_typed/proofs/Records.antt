@@ -1,29 +1,15 @@
 -- The records of a catalog tell its database.
-use Rattle.std.proofs.Common.{◌≡◌, ◌∙◌, ◌+◌, ◌++◌, ℕ, List, [], ◌∷◌, Option, Some, None, refl, ap, map}
-use Rattle.std.specs.List.{filter_map, cons_option}
-use Rattle.std.specs.Option.{option_map}
-use Rattle.std.proofs.lemmas.List.{append-nil}
+use Rattle.std.specs.{List.{filter_map, cons_option}, Option.{option_map}}
+use Rattle.std.proofs.{Common.{◌≡◌, ◌∙◌, ◌+◌, ◌++◌, ℕ, List, [], ◌∷◌, Option, Some, None, refl, ap, map}, lemmas.List.{append-nil}}
 use Rattle.std.proofs.lemmas.List.Elements.{filter_map-append}
-use Rattle.rm_catalog.specs.declared.record.HeadEntry.{HeadEntry}
-use Rattle.rm_catalog.specs.declared.record.PartEntry.{PartEntry}
-use Rattle.rm_catalog.specs.declared.record.Record.{Record}
-use Rattle.rm_catalog.specs.declared.record.SetEntry.{SetEntry}
+use Rattle.rm_catalog.specs.{Keys.{datafile_in, piece_in}, Rules.{HasDatabase}, Switches.{switches, told_by}, Trees.{node_in, nodes}}
+use Rattle.rm_catalog.specs.declared.record.{HeadEntry.{HeadEntry}, PartEntry.{PartEntry}, Record.{Record}, SetEntry.{SetEntry}}
 use Rattle.rm_catalog.specs.declared.record.Record.TheVariants as kind
-use Rattle.rm_catalog.specs.Keys.{datafile_in, piece_in}
-use Rattle.rm_catalog.specs.Rules.{HasDatabase}
-use Rattle.rm_catalog.specs.Switches.{switches, told_by}
-use Rattle.rm_catalog.specs.Trees.{node_in, nodes}
-use Rattle.rm_history.specs.declared.tree.Incarnation.{Incarnation}
-use Rattle.rm_history.specs.declared.world.Datafile.{Datafile}
-use Rattle.rm_history.specs.declared.world.Switch.{Switch}
-use Rattle.rm_history.specs.declared.world.World.{World}
+use Rattle.rm_history.specs.declared.{tree.Incarnation.{Incarnation}, world.{Datafile.{Datafile}, Switch.{Switch}, World.{World}}}
 use Rattle.rm_catalog_typed.specs.Ledger.{datafile_record, incarnation_record, mark_record, numbered, switch_record}
-use Rattle.rm_catalog_typed.specs.Switches.{switch_of, switches_of}
-use Rattle.rm_catalog_typed.specs.declared.thread_switch.ThreadSwitch.{ThreadSwitch}
-use Rattle.rm_evidence.specs.Database.{created_by, database_in, datafiles}
-use Rattle.rm_evidence.specs.Database.{world_of as told_world}
-use Rattle.rm_catalog_typed.specs.TypedCatalog.{TypedCatalog, Saved, records_of, saved_records}
-use Rattle.rm_catalog_typed.specs.Worlds.{database_of, world_of}
+use Rattle.rm_catalog_typed.specs.{Switches.{switch_of, switches_of}, TypedCatalog.{TypedCatalog, Saved, records_of, saved_records}}
+use Rattle.rm_catalog_typed.specs.{Worlds.{database_of, world_of}, declared.thread_switch.ThreadSwitch.{ThreadSwitch}}
+use Rattle.rm_evidence.specs.Database.{created_by, database_in, datafiles, world_of as told_world}
 use Rattle.rm_base.specs.declared.block.Mark.{Mark}
 
 module _ {B : Type 0} (tell : Record → Option B) where

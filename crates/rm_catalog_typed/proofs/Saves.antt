@@ -1,32 +1,17 @@
 -- What a catalog's records tell of a saved site.
+use Rattle.std.specs.{Prelude.{◌&&◌, MatchBool, IfSome, count_by}, List.{filter_map}}
 use Rattle.std.proofs.Common.{take, length-take, ◌≡◌, ◌∙◌, ℕ, ◌+◌, ◌<◌, ◌≤◌, ◌==◌, Bool, true, false, cond, List, [], ◌∷◌, length, get_or, Some, refl, ap, sym, subst, arith, eq-eqb, AllPairs, Contains}
-use Rattle.std.specs.Prelude.{◌&&◌, MatchBool, IfSome, count_by}
-use Rattle.std.specs.List.{filter_map}
-use Rattle.std.proofs.lemmas.Bool.{ne_eqb}
-use Rattle.std.proofs.lemmas.List.{get_or-take}
-use Rattle.std.proofs.lemmas.List.Elements.{Contains-get_or}
+use Rattle.std.proofs.lemmas.{Bool.{ne_eqb}, List.{get_or-take, Elements.{Contains-get_or}}}
 use Rattle.std.proofs.lemmas.List.Sums.{get_or-le-sum_by, sum_by-cons, sum_by_more_le}
-use Rattle.rm_catalog.specs.declared.record.BaseEntry.{BaseEntry}
-use Rattle.rm_catalog.specs.declared.record.DatafileEntry.{DatafileEntry}
-use Rattle.rm_catalog.specs.declared.record.HeadEntry.{HeadEntry}
-use Rattle.rm_catalog.specs.declared.record.PartEntry.{PartEntry}
-use Rattle.rm_catalog.specs.declared.record.Record.{Record}
-use Rattle.rm_catalog.specs.declared.record.Record.TheVariants as records
-use Rattle.rm_catalog.specs.Keys.{base, datafile_in, head_in, part_in, place}
-use Rattle.rm_catalog.specs.Keys.{IsThere as HasKey}
-use Rattle.rm_catalog.specs.Rules.{IsCatalog}
-use Rattle.rm_catalog.specs.Saved.{NamesOne, is_part_of}
+use Rattle.rm_catalog.specs.{Keys.{base, datafile_in, head_in, part_in, place, IsThere as HasKey}, Rules.{IsCatalog}}
+use Rattle.rm_catalog.specs.{Saved.{NamesOne, is_part_of}, declared.record.{BaseEntry.{BaseEntry}, DatafileEntry.{DatafileEntry}}}
+use Rattle.rm_catalog.specs.declared.record.{HeadEntry.{HeadEntry}, PartEntry.{PartEntry}, Record.{Record, TheVariants as records}}
+use Rattle.rm_catalog.proofs.{ByKinds.{free-in}, Telling.{record-told}}
 use Rattle.rm_base.proofs.Members.{in-front}
-use Rattle.rm_evidence.specs.Database.{datafiles}
-use Rattle.rm_evidence.proofs.Files.{file-number}
-use Rattle.rm_evidence.proofs.Found.{datafile-rule}
-use Rattle.rm_catalog.proofs.ByKinds.{free-in}
-use Rattle.rm_catalog.proofs.Telling.{record-told}
+use Rattle.rm_evidence.{specs.Database.{datafiles}, proofs.{Files.{file-number}, Found.{datafile-rule}}}
 use Rattle.rm_catalog_typed.specs.Facts.{AreApart, IsPartEntry, IsTypedCatalog, IsSaved}
 use Rattle.rm_catalog_typed.specs.Kinds.{AreSmall, ledger_in, typed_catalog_in, saved_in}
-use Rattle.rm_catalog_typed.proofs.ByKind.{is-datafile, is-part, made, placed, told-in-order}
-use Rattle.rm_catalog_typed.proofs.Ledgers.{long}
-use Rattle.rm_catalog_typed.proofs.Loads.{ledger-is}
+use Rattle.rm_catalog_typed.proofs.{ByKind.{is-datafile, is-part, made, placed, told-in-order}, Ledgers.{long}, Loads.{ledger-is}}
 use Rattle.rm_catalog_typed.proofs.Told.{has-key, head-rule, key-there, log-rule, on-base, part-rule, piece-rule, set-rule}
 
 -- a datafile whose key is there is one of the list

@@ -1,20 +1,13 @@
 -- Objects that ascend by id: where a search finds one, and where one is put.
+use Rattle.std.specs.{Prelude.{MatchResult, find, nat_lt}, List.{filter, Sorted.{IsBinarySearchResult, IsNonDecreasingBy, IsSearchInRange}}}
+use Rattle.std.specs.{Ordering.{nat_cmp, ordering_index}, declared.cmp.Ordering.TheVariants.{Equal, Greater, Less}}
 use Rattle.std.proofs.Common.{◌≡◌, ◌∙◌, ℕ, suc, ◌+◌, ◌<◌, ◌≤◌, ◌==◌, Some, Result, Ok, Err, eq-eqb, inl, inr, Bool, true, false, List, [], ◌∷◌, ◌++◌, refl, ap, sym, subst, arith, length, get_or, take, drop, All, AllPairs, length-take, length-drop}
-use Rattle.std.specs.Prelude.{MatchResult, find, nat_lt}
-use Rattle.std.specs.List.{filter}
-use Rattle.std.specs.List.Sorted.{IsBinarySearchResult, IsNonDecreasingBy, IsSearchInRange}
-use Rattle.std.specs.Ordering.{nat_cmp, ordering_index}
-use Rattle.std.specs.declared.cmp.Ordering.TheVariants.{Equal, Greater, Less}
-use Rattle.std.proofs.lemmas.Bool.{cond-false, cond-true, le-ltb, lt-ltb, ne_eqb}
-use Rattle.std.proofs.lemmas.Bool.Decides.{nat_tests}
-use Rattle.std.proofs.lemmas.Cmp.{ranked}
+use Rattle.std.proofs.lemmas.{Bool.{cond-false, cond-true, le-ltb, lt-ltb, ne_eqb, Decides.{nat_tests}}, Cmp.{ranked}}
 use Rattle.std.proofs.lemmas.List.{append-nil, get_or-drop, get_or_default, get_or-take, set_split, take-append-drop}
-use Rattle.std.proofs.lemmas.List.Elements.{All-cons, All-push, All-weaker, filter-append}
-use Rattle.std.proofs.lemmas.Option.{slice_get-get_or, slice_get_cases}
+use Rattle.std.proofs.lemmas.{List.Elements.{All-cons, All-push, All-weaker, filter-append}, Option.{slice_get-get_or, slice_get_cases}}
 use Rattle.std.proofs.Math.Seq.{drop-cons, take-suc}
 use Rattle.rm_catalog.proofs.Filters.{filter_all, filter_none}
-use Rattle.rm_catalog_typed.specs.Changes.{higher, lower}
-use Rattle.rm_catalog_typed.specs.Places.{IsAt, IsGap}
+use Rattle.rm_catalog_typed.specs.{Changes.{higher, lower}, Places.{IsAt, IsGap}}
 
 -- what holds of each before a place, and from it on
 in-front : {A : Type 0} (P : A → Type 0) (xs : List A) (i : ℕ) → i ≤ length xs → ((k : ℕ) (d : A) → k < i → P (get_or xs k d)) → All P (take i xs)

@@ -1,45 +1,22 @@
 -- The logs, pieces, sets and marks of a catalog are those of a ledger.
+use Rattle.std.specs.{Prelude.{IsSomeAnd, IsTrue}, List.{filter_map}, Option.{option_map}}
 use Rattle.std.proofs.Common.{◌≡◌, ◌∙◌, ℕ, ◌+◌, ◌-◌, ◌<◌, ◌≤◌, List, get_or, map, Option, Some, None, refl, ap, sym, subst, arith, All, Contains, slice_get}
-use Rattle.std.specs.Prelude.{IsSomeAnd, IsTrue}
-use Rattle.std.specs.List.{filter_map}
-use Rattle.std.specs.Option.{option_map}
-use Rattle.std.proofs.lemmas.Bool.{eqb-true}
-use Rattle.std.proofs.lemmas.List.{get_or-map, length-map}
-use Rattle.std.proofs.lemmas.List.Elements.{All-contains, All-map, All-weaker, Contains-get_or}
-use Rattle.std.proofs.lemmas.List.Folds.{Any-from_list_any}
-use Rattle.std.proofs.lemmas.Option.{get_or_from_slice_get, slice_get-map}
-use Rattle.rm_base.specs.declared.block.Mark.{Mark}
-use Rattle.rm_base.proofs.Lists.{map_to}
-use Rattle.rm_history.specs.declared.world.Datafile.{Datafile}
-use Rattle.rm_history.specs.Tree.{IsThere}
-use Rattle.rm_catalog.specs.declared.record.BaseEntry.{BaseEntry}
-use Rattle.rm_catalog.specs.declared.record.DatafileEntry.{DatafileEntry}
-use Rattle.rm_catalog.specs.declared.record.LogEntry.{LogEntry}
-use Rattle.rm_catalog.specs.declared.record.MarkEntry.{MarkEntry}
-use Rattle.rm_catalog.specs.declared.record.PieceEntry.{PieceEntry}
-use Rattle.rm_catalog.specs.declared.record.Record.{Record}
-use Rattle.rm_catalog.specs.declared.record.SetEntry.{SetEntry}
-use Rattle.rm_catalog.specs.declared.record.SetPart.{SetPart}
-use Rattle.rm_catalog.specs.declared.record.Record.TheVariants as records
-use Rattle.rm_catalog.specs.Keys.{base, datafile, log_in, piece_in, place, set_in}
-use Rattle.rm_catalog.specs.Facts.{IsWithin, is_mark_of}
-use Rattle.rm_catalog.specs.Objects.{IsRange, FitsDatafile}
-use Rattle.rm_catalog.specs.Rules.{IsCatalog}
-use Rattle.rm_catalog.specs.SetRules.{FitsSetFile, SetPartRule}
-use Rattle.rm_catalog.specs.Trees.{nodes}
-use Rattle.rm_catalog.proofs.ByKinds.{free-in}
-use Rattle.rm_catalog.proofs.Trees.{path_is}
-use Rattle.rm_evidence.specs.Database.{created_by, datafiles}
-use Rattle.rm_evidence.proofs.Files.{entries, datafiles-are, entry-is}
-use Rattle.rm_evidence.proofs.Found.{datafile-rule, datafile-there}
-use Rattle.rm_catalog.proofs.Telling.{record-told}
-use Rattle.rm_evidence.proofs.DatabaseWorlds.{entry-of}
+use Rattle.std.proofs.lemmas.{Bool.{eqb-true}, List.{get_or-map, length-map, Elements.{All-contains, All-map, All-weaker, Contains-get_or}}}
+use Rattle.std.proofs.lemmas.{List.Folds.{Any-from_list_any}, Option.{get_or_from_slice_get, slice_get-map}}
+use Rattle.rm_base.{specs.declared.block.Mark.{Mark}, proofs.Lists.{map_to}}
+use Rattle.rm_history.specs.{Tree.{IsThere}, declared.world.Datafile.{Datafile}}
+use Rattle.rm_catalog.specs.{Keys.{base, datafile, log_in, piece_in, place, set_in}, Facts.{IsWithin, is_mark_of}}
+use Rattle.rm_catalog.specs.{Objects.{IsRange, FitsDatafile}, Rules.{IsCatalog}, SetRules.{FitsSetFile, SetPartRule}, Trees.{nodes}}
+use Rattle.rm_catalog.specs.declared.record.{BaseEntry.{BaseEntry}, DatafileEntry.{DatafileEntry}, LogEntry.{LogEntry}}
+use Rattle.rm_catalog.specs.declared.record.{MarkEntry.{MarkEntry}, PieceEntry.{PieceEntry}, Record.{Record}, SetEntry.{SetEntry}}
+use Rattle.rm_catalog.{specs.declared.record.{SetPart.{SetPart}, Record.TheVariants as records}, proofs.ByKinds.{free-in}}
+use Rattle.rm_catalog.proofs.{Trees.{path_is}, Telling.{record-told}}
+use Rattle.rm_evidence.{specs.Database.{created_by, datafiles}, proofs.Files.{entries, datafiles-are, entry-is}}
+use Rattle.rm_evidence.proofs.{Found.{datafile-rule, datafile-there}, DatabaseWorlds.{entry-of}}
 use Rattle.rm_catalog_typed.specs.LedgerFacts.{AreIds, AreMarks, HasMark, IsBase, IsLogEntry, IsMark, IsPieceEntry, IsSetEntry, IsSetPart, Rise}
-use Rattle.rm_catalog_typed.specs.Kinds.{AreSmall, marked_by}
-use Rattle.rm_catalog_typed.proofs.ByKind.{is-log, is-piece, is-set, made, told-in-order}
+use Rattle.rm_catalog_typed.{specs.Kinds.{AreSmall, marked_by}, proofs.ByKind.{is-log, is-piece, is-set, made, told-in-order}}
 use Rattle.rm_catalog_typed.proofs.Lookups.{item-at}
-use Rattle.rm_catalog_typed.proofs.Marks.{mark-rule, moments-rise}
-use Rattle.rm_catalog_typed.proofs.Marks.{entries as mark_entries, entry-record as mark-record}
+use Rattle.rm_catalog_typed.proofs.Marks.{mark-rule, moments-rise, entries as mark_entries, entry-record as mark-record}
 use Rattle.rm_catalog_typed.proofs.Told.{base-rule, has-key, log-rule, on-base, on-incarnation, piece-rule, set-rule}
 
 module _ (rs : List Record) (b : BaseEntry) (c : IsCatalog rs) (is : base rs ≡ Some b) where

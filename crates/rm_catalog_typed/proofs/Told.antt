@@ -1,33 +1,16 @@
 -- What stands at each place of a catalog's records.
+use Rattle.std.specs.{Prelude.{IsSome, IsSomeAnd, option_and_then}, List.{filter_map}, Option.{option_map_or}}
 use Rattle.std.proofs.Common.{◌≡◌, ◌∙◌, ℕ, ◌<◌, inl, inr, List, [], ◌∷◌, Option, Some, None, refl, ap, sym, subst, arith, Contains, AllPairs}
-use Rattle.std.specs.Prelude.{IsSome, IsSomeAnd, option_and_then}
-use Rattle.std.specs.List.{filter_map}
-use Rattle.std.specs.Option.{option_map_or}
 use Rattle.std.proofs.lemmas.Option.{option_and_then_some}
-use Rattle.rm_catalog.specs.declared.record.BaseEntry.{BaseEntry}
-use Rattle.rm_catalog.specs.declared.record.HeadEntry.{HeadEntry}
-use Rattle.rm_catalog.specs.declared.record.IncarnationEntry.{IncarnationEntry}
-use Rattle.rm_catalog.specs.declared.record.LogEntry.{LogEntry}
-use Rattle.rm_catalog.specs.declared.record.PartEntry.{PartEntry}
-use Rattle.rm_catalog.specs.declared.record.PieceEntry.{PieceEntry}
-use Rattle.rm_catalog.specs.declared.record.Record.{Record}
-use Rattle.rm_catalog.specs.declared.record.SetEntry.{SetEntry}
-use Rattle.rm_catalog.specs.declared.record.Record.TheVariants as records
-use Rattle.rm_catalog.specs.Keys.{at, base, base_in, head_in, incarnation, incarnation_in, log_in, part_in, piece_in, place, place_of, set_in}
-use Rattle.rm_catalog.specs.Keys.{IsThere as HasKey}
-use Rattle.rm_catalog.specs.Facts.{BaseRule}
-use Rattle.rm_catalog.specs.Objects.{LogRule, PieceRule}
-use Rattle.rm_catalog.specs.Saved.{HeadRule, PartRule}
-use Rattle.rm_catalog.specs.SetRules.{SetRule}
-use Rattle.rm_catalog.specs.Rules.{IsCatalog}
-use Rattle.rm_catalog.specs.Trees.{nodes}
-use Rattle.rm_catalog.proofs.Told.{found_is}
-use Rattle.rm_catalog.proofs.Trees.{in_tree_is}
+use Rattle.rm_catalog.specs.Keys.{at, base, base_in, head_in, incarnation, incarnation_in, log_in, part_in, piece_in, place, place_of, set_in, IsThere as HasKey}
+use Rattle.rm_catalog.specs.{Facts.{BaseRule}, Objects.{LogRule, PieceRule}, Saved.{HeadRule, PartRule}, SetRules.{SetRule}}
+use Rattle.rm_catalog.specs.{Rules.{IsCatalog}, Trees.{nodes}, declared.record.{BaseEntry.{BaseEntry}, HeadEntry.{HeadEntry}}}
+use Rattle.rm_catalog.specs.declared.record.{IncarnationEntry.{IncarnationEntry}, LogEntry.{LogEntry}, PartEntry.{PartEntry}}
+use Rattle.rm_catalog.specs.declared.record.{PieceEntry.{PieceEntry}, Record.{Record, TheVariants as records}, SetEntry.{SetEntry}}
+use Rattle.rm_catalog.proofs.{Told.{found_is}, Trees.{in_tree_is}}
 use Rattle.rm_base.proofs.Members.{first-or-rest, none-in}
-use Rattle.rm_history.specs.declared.tree.Incarnation as tree
-use Rattle.rm_history.specs.Tree.{IsThere, reset_of, end_of}
-use Rattle.rm_evidence.proofs.Found.{at-is, obeys}
-use Rattle.rm_evidence.proofs.DatabaseWorlds.{found-there, reset-is}
+use Rattle.rm_history.specs.{Tree.{IsThere, reset_of, end_of}, declared.tree.Incarnation as tree}
+use Rattle.rm_evidence.proofs.{Found.{at-is, obeys}, DatabaseWorlds.{found-there, reset-is}}
 use Rattle.rm_catalog_typed.proofs.ByKind.{is-base, is-head, is-incarnation, is-log, is-part, is-piece, is-set, made, placed, told-in-order, told-is}
 
 pub log-rule : (rs : List Record) (e : LogEntry) → IsCatalog rs → Contains (filter_map log_in rs) e → LogRule rs e

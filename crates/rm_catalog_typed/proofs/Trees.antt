@@ -1,8 +1,8 @@
 -- A tree that grows keeps what it says of the incarnations that were there.
 use Rattle.std.proofs.Common.{◌≡◌, ◌∙◌, ℕ, zero, suc, ◌<◌, ◌≤◌, inl, inr, List, length, ap, sym, subst, arith}
 use Rattle.std.proofs.lemmas.Bool.{cases_eq, cases_lt}
-use Rattle.rm_history.specs.declared.tree.Incarnation.{Incarnation}
 use Rattle.rm_history.specs.Tree.{HasParentsBelow, IsThere, owner, parent_of, reset_of, end_of, with_end, with_branch}
+use Rattle.rm_history.specs.declared.tree.Incarnation.{Incarnation}
 use Rattle.rm_history.proofs.Branches.{IsThere-with_branch, owner-with_branch, reset_of-with_branch, end_of-with_branch}
 use Rattle.rm_history.proofs.Ends.{IsThere-with_end, owner-with_end, reset_of-with_end, end_of-with_end, end_of-with_end_other}
 use Rattle.rm_history.proofs.Owners.{owner-cases, owner-first, parent-none}

@@ -1,24 +1,15 @@
 -- What a switch of a redo thread obeys among records, and among the switches that these tell.
+use Rattle.std.specs.{Prelude.{IfSome, IsSome, IsSomeAnd, not, option_and_then}, Option.{option_map}}
 use Rattle.std.proofs.Common.{◌≡◌, ◌∙◌, ℕ, zero, suc, ◌+◌, ◌-◌, ◌<◌, ◌≤◌, ◌==◌, ◌&&◌, ◌||◌, List, length, get_or, map, slice_get, Option, Some, None, refl, ap, sym, subst, arith, take, All}
-use Rattle.std.specs.Prelude.{IfSome, IsSome, IsSomeAnd, not, option_and_then}
-use Rattle.std.specs.Option.{option_map}
 use Rattle.std.proofs.lemmas.List.{get_or-take, length-map, length-take, take-map}
 use Rattle.std.proofs.lemmas.Option.{get_or_from_slice_get, slice_get-map, slice_get_within}
-use Rattle.rm_history.specs.declared.tree.Incarnation.{Incarnation}
+use Rattle.rm_history.specs.{Threads.{is_enabled}, Tree.{IsThere, end_of, owner, reset_of}, declared.tree.Incarnation.{Incarnation}}
 use Rattle.rm_history.specs.declared.world.Switch.{Switch}
-use Rattle.rm_history.specs.Threads.{is_enabled}
-use Rattle.rm_history.specs.Tree.{IsThere, end_of, owner, reset_of}
-use Rattle.rm_catalog.specs.declared.record.Record.{Record}
-use Rattle.rm_catalog.specs.Keys.{at, incarnation, place, switch_in}
-use Rattle.rm_catalog.specs.Keys.{IsThere as HasKey}
-use Rattle.rm_catalog.specs.Objects.{owner_in}
-use Rattle.rm_catalog.specs.Switches.{IsAt, SwitchRule, began_with, was_enabled}
-use Rattle.rm_catalog.specs.Switches.{IsAbove as IsAboveAll, leaves_one as leaves_one_in, switch_of as told_switch}
-use Rattle.rm_catalog.proofs.Switching.{AreFound, was-told}
-use Rattle.rm_catalog_typed.specs.Ledger.{switch_record}
-use Rattle.rm_catalog_typed.specs.Switches.{IsAbove, IsNextSwitch, enabled_by, leaves_one, switch_of}
-use Rattle.rm_catalog_typed.specs.declared.thread_switch.ThreadSwitch.{ThreadSwitch}
-use Rattle.rm_catalog_typed.proofs.Lookups.{item-at, switch_entry}
+use Rattle.rm_catalog.specs.{Keys.{at, incarnation, place, switch_in, IsThere as HasKey}, Objects.{owner_in}}
+use Rattle.rm_catalog.specs.Switches.{IsAt, SwitchRule, began_with, was_enabled, IsAbove as IsAboveAll, leaves_one as leaves_one_in, switch_of as told_switch}
+use Rattle.rm_catalog.{specs.declared.record.Record.{Record}, proofs.Switching.{AreFound, was-told}}
+use Rattle.rm_catalog_typed.specs.{Ledger.{switch_record}, Switches.{IsAbove, IsNextSwitch, enabled_by, leaves_one, switch_of}}
+use Rattle.rm_catalog_typed.{specs.declared.thread_switch.ThreadSwitch.{ThreadSwitch}, proofs.Lookups.{item-at, switch_entry}}
 
 -- records that tell paths, how many threads there were, and switches under their numbers
 pub record Tells (rs : List Record) (tree : List Incarnation) (threads : ℕ) (xs : List ThreadSwitch) : Type 0 where

@@ -1,29 +1,15 @@
 -- The switches of a catalog have the numbers 1, 2, 3 and so on, and come in turn.
+use Rattle.std.specs.{List.{filter_map}, Option.{option_map_or}}
 use Rattle.std.proofs.Common.{◌≡◌, ◌+◌, ◌<◌, ℕ, List, map, slice_get, Some, refl, ap, sym, subst, arith, Contains}
-use Rattle.std.specs.List.{filter_map}
-use Rattle.std.specs.Option.{option_map_or}
 use Rattle.std.proofs.lemmas.List.Elements.{All-contains}
 use Rattle.rm_base.proofs.Lists.{map_from}
-use Rattle.rm_catalog.specs.declared.record.BaseEntry.{BaseEntry}
-use Rattle.rm_catalog.specs.declared.record.Record.{Record}
-use Rattle.rm_catalog.specs.declared.record.SwitchEntry.{SwitchEntry}
-use Rattle.rm_catalog.specs.declared.record.Record.TheVariants as records
-use Rattle.rm_catalog.specs.Keys.{base, switch_in}
-use Rattle.rm_catalog.specs.Rules.{IsCatalog}
-use Rattle.rm_catalog.specs.Switches.{IsAt}
-use Rattle.rm_catalog.specs.Trees.{nodes}
-use Rattle.rm_catalog.proofs.Switching.{switch-rule}
-use Rattle.rm_catalog.proofs.SwitchNumbers.{switch-number}
-use Rattle.rm_catalog.proofs.Trees.{path_is}
+use Rattle.rm_catalog.specs.{Keys.{base, switch_in}, Rules.{IsCatalog}, Switches.{IsAt}, Trees.{nodes}}
+use Rattle.rm_catalog.specs.declared.record.{BaseEntry.{BaseEntry}, Record.{Record, TheVariants as records}, SwitchEntry.{SwitchEntry}}
+use Rattle.rm_catalog.proofs.{Switching.{switch-rule}, SwitchNumbers.{switch-number}, Trees.{path_is}}
 use Rattle.rm_evidence.proofs.Found.{at-is}
-use Rattle.rm_catalog_typed.specs.Kinds.{AreSmall, IsSmall, switched_by}
-use Rattle.rm_catalog_typed.specs.Ledger.{numbered, switch_record}
-use Rattle.rm_catalog_typed.specs.Switches.{ComeInTurn}
-use Rattle.rm_catalog_typed.specs.declared.thread_switch.ThreadSwitch.{ThreadSwitch}
-use Rattle.rm_catalog_typed.proofs.ByKind.{is-switch, made, numbered-by}
-use Rattle.rm_catalog_typed.proofs.Lookups.{in-numbered, switch_entry}
-use Rattle.rm_catalog_typed.proofs.Told.{on-incarnation}
-use Rattle.rm_catalog_typed.proofs.Turns.{Tells, next-from}
+use Rattle.rm_catalog_typed.specs.{Kinds.{AreSmall, IsSmall, switched_by}, Ledger.{numbered, switch_record}, Switches.{ComeInTurn}}
+use Rattle.rm_catalog_typed.{specs.declared.thread_switch.ThreadSwitch.{ThreadSwitch}, proofs.ByKind.{is-switch, made, numbered-by}}
+use Rattle.rm_catalog_typed.proofs.{Lookups.{in-numbered, switch_entry}, Told.{on-incarnation}, Turns.{Tells, next-from}}
 
 module _ (rs : List Record) (c : IsCatalog rs) (small : AreSmall rs) where
   -- what the switches among the records say, in order

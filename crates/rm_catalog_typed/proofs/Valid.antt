@@ -1,49 +1,29 @@
 -- The records of a typed catalog are valid: those of a saved site stand among the others, of which each rule holds as before.
-use Rattle.std.proofs.Common.{◌≡◌, ◌≢◌, ◌∙◌, ℕ, zero, suc, ◌+◌, ◌-◌, ◌<◌, ◌≤◌, ◌==◌, ◌⊎◌, inl, inr, Bool, false, true, cond, leb, List, [], ◌∷◌, ◌++◌, map, get_or, length, Option, Some, None, refl, ap, slice_get, sym, subst, arith, All, AllPairs, Contains, eq-eqb}
 use Rattle.std.specs.Prelude.{IfSome, IsSome, IsSomeAnd, MatchBool, ◌&&◌, ◌||◌, count_by, nat_le, nat_lt, option_and_then, sum_by}
-use Rattle.std.specs.List.{list_any}
-use Rattle.std.specs.Option.{option_map_or}
-use Rattle.std.proofs.lemmas.Bool.{and_parts, cases_Bool, cases_eq, eqb-true, false_from_ne_true, ne_eqb, true≢false}
-use Rattle.std.proofs.lemmas.Bool.Decides.{nat_tests}
+use Rattle.std.specs.{List.{list_any}, Option.{option_map_or}}
+use Rattle.std.proofs.Common.{◌≡◌, ◌≢◌, ◌∙◌, ℕ, zero, suc, ◌+◌, ◌-◌, ◌<◌, ◌≤◌, ◌==◌, ◌⊎◌, inl, inr, Bool, false, true, cond, leb, List, [], ◌∷◌, ◌++◌, map, get_or, length, Option, Some, None, refl, ap, slice_get, sym, subst, arith, All, AllPairs, Contains, eq-eqb}
+use Rattle.std.proofs.lemmas.Bool.{and_parts, cases_Bool, cases_eq, eqb-true, false_from_ne_true, ne_eqb, true≢false, Decides.{nat_tests}}
 use Rattle.std.proofs.lemmas.List.Elements.{All-contains, All-map, All-weaker, Contains-append_right, Contains-get_or, Contains-push_cases}
-use Rattle.std.proofs.lemmas.List.Folds.{list_any-append}
-use Rattle.std.proofs.lemmas.List.Sums.{length-filter, sum_by-append, sum_by-cons}
-use Rattle.rm_catalog.specs.declared.record.DatafileEntry.{DatafileEntry}
-use Rattle.rm_catalog.specs.declared.record.IncarnationEntry.{IncarnationEntry}
-use Rattle.rm_catalog.specs.declared.record.LogEntry.{LogEntry}
-use Rattle.rm_catalog.specs.declared.record.PartEntry.{PartEntry}
-use Rattle.rm_catalog.specs.declared.record.PieceEntry.{PieceEntry}
-use Rattle.rm_catalog.specs.declared.record.Record.{Record}
-use Rattle.rm_catalog.specs.declared.record.SetEntry.{SetEntry}
-use Rattle.rm_catalog.specs.declared.record.SetPart.{SetPart}
-use Rattle.rm_catalog.specs.declared.record.Record.TheVariants as kind
+use Rattle.std.proofs.lemmas.List.{Folds.{list_any-append}, Sums.{length-filter, sum_by-append, sum_by-cons}}
 use Rattle.rm_catalog.specs.Facts.{BeginsOn, IsCreatedOn, IsWithin, blocks_to, is_mark_of}
-use Rattle.rm_catalog.specs.Keys.{place, place_of, at, datafile, datafile_in, incarnation, incarnation_in, mark_in, part_in}
-use Rattle.rm_catalog.specs.Keys.{IsThere as HasKey}
+use Rattle.rm_catalog.specs.Keys.{place, place_of, at, datafile, datafile_in, incarnation, incarnation_in, mark_in, part_in, IsThere as HasKey}
 use Rattle.rm_catalog.specs.Objects.{FitsDatafile, IsRange, owner_in}
 use Rattle.rm_catalog.specs.Rules.{IsAmongFirst, IsCatalog, Obeys, OwnRule, is_lasting, lasts_below}
-use Rattle.rm_catalog.specs.Saved.{HeadRule, NamesOne, PartRule, is_part_of}
-use Rattle.rm_catalog.specs.SetRules.{FitsSetFile, SetPartRule}
-use Rattle.rm_catalog.specs.Switches.{IsAt, SwitchRule}
-use Rattle.rm_catalog.proofs.Counts.{alike_count}
-use Rattle.rm_catalog.proofs.Filters.{filter_none}
-use Rattle.rm_catalog.proofs.ByKinds.{all-free, free-in, lasting-place, own-free}
-use Rattle.rm_catalog.proofs.Told.{at_here, at_past}
-use Rattle.rm_base.proofs.Members.{in-front, none-in}
-use Rattle.rm_base.proofs.Lists.{map_from}
+use Rattle.rm_catalog.specs.{Saved.{HeadRule, NamesOne, PartRule, is_part_of}, SetRules.{FitsSetFile, SetPartRule}}
+use Rattle.rm_catalog.specs.{Switches.{IsAt, SwitchRule}, declared.record.DatafileEntry.{DatafileEntry}}
+use Rattle.rm_catalog.specs.declared.record.{IncarnationEntry.{IncarnationEntry}, LogEntry.{LogEntry}, PartEntry.{PartEntry}}
+use Rattle.rm_catalog.specs.declared.record.{PieceEntry.{PieceEntry}, Record.{Record}, SetEntry.{SetEntry}, SetPart.{SetPart}}
+use Rattle.rm_catalog.{specs.declared.record.Record.TheVariants as kind, proofs.{Counts.{alike_count}, Filters.{filter_none}}}
+use Rattle.rm_catalog.proofs.{ByKinds.{all-free, free-in, lasting-place, own-free}, Told.{at_here, at_past}}
+use Rattle.rm_base.proofs.{Members.{in-front, none-in}, Lists.{map_from}}
 use Rattle.rm_catalog_typed.specs.Ledger.{back_records, front_records, ledger_records}
-use Rattle.rm_catalog_typed.proofs.Counted.{rises-once, sum-none-map}
-use Rattle.rm_catalog_typed.proofs.Lookups.{apart-from-site, datafile-at, incarnation-there, item-at, log-id-within, no-log, no-piece, no-set, no-switch, piece-id-within, record-own, set-id-within, switch-at, switch_entry}
-use Rattle.rm_catalog_typed.proofs.Order.{Runs, back-run, front-run, rises-found, rises-order, runs-append, runs-join, runs-rise, runs-within}
-use Rattle.rm_catalog_typed.proofs.LedgerValid.{ledger-valid}
 use Rattle.rm_catalog_typed.specs.Facts.{AreApart, IsPartEntry, IsTypedCatalog, IsSaved}
 use Rattle.rm_catalog_typed.specs.TypedCatalog.{TypedCatalog, Saved, records_of, saved_records}
-use Rattle.rm_catalog_typed.specs.declared.thread_switch.ThreadSwitch.{ThreadSwitch}
-use Rattle.rm_catalog_typed.proofs.ByKind.{is-part, placed}
-use Rattle.rm_catalog_typed.proofs.Changed.{saved-run}
-use Rattle.rm_catalog_typed.proofs.LedgerThings.{switch-rule}
-use Rattle.rm_catalog_typed.proofs.Members.{either-of, ledger-has, log-in, piece-in, set-in, site-has}
-use Rattle.rm_catalog_typed.proofs.Paths.{path-is}
+use Rattle.rm_catalog_typed.{specs.declared.thread_switch.ThreadSwitch.{ThreadSwitch}, proofs.Counted.{rises-once, sum-none-map}}
+use Rattle.rm_catalog_typed.proofs.Lookups.{apart-from-site, datafile-at, incarnation-there, item-at, log-id-within, no-log, no-piece, no-set, no-switch, piece-id-within, record-own, set-id-within, switch-at, switch_entry}
+use Rattle.rm_catalog_typed.proofs.Order.{Runs, back-run, front-run, rises-found, rises-order, runs-append, runs-join, runs-rise, runs-within}
+use Rattle.rm_catalog_typed.proofs.{LedgerValid.{ledger-valid}, ByKind.{is-part, placed}, Changed.{saved-run}, LedgerThings.{switch-rule}}
+use Rattle.rm_catalog_typed.proofs.{Members.{either-of, ledger-has, log-in, piece-in, set-in, site-has}, Paths.{path-is}}
 use Rattle.rm_catalog_typed.proofs.Turns.{Tells, rule-from}
 
 -- records at other places may stand in front, and among others

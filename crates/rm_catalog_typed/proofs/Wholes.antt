@@ -1,26 +1,15 @@
 -- What loading rests on.
+use Rattle.std.specs.{Prelude.{option_and_then}, List.{filter_map}}
 use Rattle.std.proofs.Common.{◌≡◌, ◌∙◌, ◌<◌, ◌≤◌, List, [], ◌∷◌, length, Some, None, refl, ap, sym, subst, arith, Contains, slice_get}
-use Rattle.std.specs.Prelude.{option_and_then}
-use Rattle.std.specs.List.{filter_map}
 use Rattle.std.proofs.lemmas.Option.{slice_get_within, get_or_from_slice_get}
-use Rattle.rm_catalog.specs.declared.record.BaseEntry.{BaseEntry}
-use Rattle.rm_catalog.specs.declared.record.Record.{Record}
-use Rattle.rm_catalog.specs.declared.record.Record.TheVariants as records
-use Rattle.rm_catalog.specs.Keys.{base, base_in}
-use Rattle.rm_catalog.specs.Rules.{HasDatabase, IsCatalog}
-use Rattle.rm_catalog.specs.Trees.{as_tree, nodes}
-use Rattle.rm_catalog.proofs.Trees.{some_node}
+use Rattle.rm_catalog.specs.{Keys.{base, base_in}, Rules.{HasDatabase, IsCatalog}, Trees.{as_tree, nodes}}
+use Rattle.rm_catalog.{specs.declared.record.{BaseEntry.{BaseEntry}, Record.{Record, TheVariants as records}}, proofs.Trees.{some_node}}
+use Rattle.rm_catalog.proofs.Telling.{record-told}
 use Rattle.rm_history.specs.declared.tree.Incarnation.{Incarnation}
 use Rattle.rm_evidence.proofs.Found.{at-is, obeys}
-use Rattle.rm_catalog.proofs.Telling.{record-told}
 use Rattle.rm_base.proofs.Members.{in-front, none-in}
-use Rattle.rm_catalog_typed.specs.Facts.{IsTypedCatalog}
-use Rattle.rm_catalog_typed.specs.Kinds.{AreSmall, Told, told_by}
-use Rattle.rm_catalog_typed.specs.Loading.{gathered}
-use Rattle.rm_catalog_typed.specs.TypedCatalog.{records_of}
-use Rattle.rm_catalog_typed.proofs.ByKind.{is-base, made, placed}
-use Rattle.rm_catalog_typed.proofs.Loads.{records-are}
-use Rattle.rm_catalog_typed.proofs.Saves.{typed_catalog-is}
+use Rattle.rm_catalog_typed.specs.{Facts.{IsTypedCatalog}, Kinds.{AreSmall, Told, told_by}, Loading.{gathered}, TypedCatalog.{records_of}}
+use Rattle.rm_catalog_typed.proofs.{ByKind.{is-base, made, placed}, Loads.{records-are}, Saves.{typed_catalog-is}}
 
 base-is : (rs : List Record) (b : BaseEntry) → IsCatalog rs → slice_get (filter_map base_in rs) 0 ≡ Some b → base rs ≡ Some b
 base-is rs b c first =

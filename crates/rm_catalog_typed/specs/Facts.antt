@@ -1,14 +1,9 @@
 -- What is true of each typed catalog: its records are valid, and these are the rules in its own words.
 use Rattle.std.specs.Prelude.{◌≡◌, ◌≢◌, ◌<◌, ◌≤◌, Contains, IfSome, All, AllPairs, length}
-use Rattle.rm_catalog.specs.declared.record.PartEntry.{PartEntry}
-use Rattle.rm_catalog.specs.Objects.{most_bytes}
-use Rattle.rm_catalog.specs.declared.record.LogEntry.{LogEntry}
-use Rattle.rm_catalog.specs.declared.record.PieceEntry.{PieceEntry}
+use Rattle.rm_catalog.specs.{Objects.{most_bytes}, declared.record.{PartEntry.{PartEntry}, LogEntry.{LogEntry}, PieceEntry.{PieceEntry}}}
 use Rattle.rm_catalog.specs.declared.record.SetEntry.{SetEntry}
 use Rattle.rm_history.specs.Tree.{IsThere}
-use Rattle.rm_catalog_typed.specs.LedgerFacts.{IsLedger}
-use Rattle.rm_catalog_typed.specs.Ledger.{Ledger}
-use Rattle.rm_catalog_typed.specs.TypedCatalog.{TypedCatalog, Saved}
+use Rattle.rm_catalog_typed.specs.{LedgerFacts.{IsLedger}, Ledger.{Ledger}, TypedCatalog.{TypedCatalog, Saved}}
 
 -- a part is of a redo thread from 1 to 4, or of a datafile that is there
 pub record IsPartEntry (l : Ledger) (p : PartEntry) : Type 0 where

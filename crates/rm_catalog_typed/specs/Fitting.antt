@@ -1,17 +1,10 @@
 -- What may be added to a typed catalog, or come in place of what it has.
 use Rattle.std.specs.Prelude.{◌≡◌, ◌≢◌, ◌⊎◌, ◌+◌, ℕ, ◌<◌, ◌≤◌, All, Contains, IfSome, List, length, sum_by}
 use Rattle.rm_base.specs.declared.block.Mark.{Mark}
-use Rattle.rm_catalog.specs.declared.record.BaseEntry.{BaseEntry}
-use Rattle.rm_catalog.specs.declared.record.LogEntry.{LogEntry}
-use Rattle.rm_catalog.specs.declared.record.PieceEntry.{PieceEntry}
-use Rattle.rm_catalog.specs.declared.record.SetEntry.{SetEntry}
-use Rattle.rm_history.specs.declared.world.Datafile.{Datafile}
-use Rattle.rm_history.specs.Tree.{IsThere, reset_of, end_of}
-use Rattle.rm_catalog_typed.specs.LedgerFacts.{IsBase, IsCreated, IsLogEntry, IsMark, IsPieceEntry, IsSetEntry}
-use Rattle.rm_catalog_typed.specs.Ledger.{ledger_records}
-use Rattle.rm_catalog_typed.specs.Switches.{IsNextSwitch}
-use Rattle.rm_catalog_typed.specs.TypedCatalog.{TypedCatalog}
-use Rattle.rm_catalog_typed.specs.declared.thread_switch.ThreadSwitch.{ThreadSwitch}
+use Rattle.rm_catalog.specs.declared.record.{BaseEntry.{BaseEntry}, LogEntry.{LogEntry}, PieceEntry.{PieceEntry}, SetEntry.{SetEntry}}
+use Rattle.rm_history.specs.{Tree.{IsThere, reset_of, end_of}, declared.world.Datafile.{Datafile}}
+use Rattle.rm_catalog_typed.specs.{LedgerFacts.{IsBase, IsCreated, IsLogEntry, IsMark, IsPieceEntry, IsSetEntry}, Ledger.{ledger_records}}
+use Rattle.rm_catalog_typed.specs.{Switches.{IsNextSwitch}, TypedCatalog.{TypedCatalog}, declared.thread_switch.ThreadSwitch.{ThreadSwitch}}
 
 -- n records more are not too many
 abbrev pub HasRoomFor : TypedCatalog → ℕ → Type 0

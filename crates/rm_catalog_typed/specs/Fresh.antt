@@ -1,8 +1,7 @@
 -- A new database, and its records.
 use Rattle.std.specs.Prelude.{ℕ, false, List, [], ◌∷◌, map}
 use Rattle.rm_base.specs.declared.kinds.Policy.TheVariants.{Redundancy}
-use Rattle.rm_catalog.specs.declared.record.Edit.{Edit}
-use Rattle.rm_catalog.specs.declared.record.Edit.TheVariants.{Put}
+use Rattle.rm_catalog.specs.declared.record.Edit.{Edit, TheVariants.{Put}}
 use Rattle.rm_history.specs.Tree.{branched}
 use Rattle.rm_catalog_typed.specs.Ledger.{Ledger, ledger_records}
 

@@ -1,24 +1,13 @@
 -- The records of a catalog, kind by kind.
-use Rattle.std.specs.Prelude.{◌++◌, List, [], ◌∷◌, Option, Some, None, All, map, ◌≤◌}
-use Rattle.std.specs.List.{filter_map}
+use Rattle.std.specs.{Prelude.{◌++◌, List, [], ◌∷◌, Option, Some, None, All, map, ◌≤◌}, List.{filter_map}}
 use Rattle.rm_base.specs.declared.block.Mark.{Mark}
-use Rattle.rm_catalog.specs.declared.record.BaseEntry.{BaseEntry}
-use Rattle.rm_catalog.specs.declared.record.HeadEntry.{HeadEntry}
-use Rattle.rm_catalog.specs.declared.record.LogEntry.{LogEntry}
-use Rattle.rm_catalog.specs.declared.record.MarkEntry.{MarkEntry}
-use Rattle.rm_catalog.specs.declared.record.PartEntry.{PartEntry}
-use Rattle.rm_catalog.specs.declared.record.PieceEntry.{PieceEntry}
-use Rattle.rm_catalog.specs.declared.record.Record.{Record}
-use Rattle.rm_catalog.specs.declared.record.SetEntry.{SetEntry}
-use Rattle.rm_catalog.specs.declared.record.SwitchEntry.{SwitchEntry}
-use Rattle.rm_catalog.specs.declared.record.Record.TheVariants as kind
 use Rattle.rm_catalog.specs.Keys.{base_in, datafile_in, head_in, incarnation_in, log_in, mark_in, part_in, piece_in, set_in, switch_in}
-use Rattle.rm_catalog.specs.Trees.{nodes}
+use Rattle.rm_catalog.specs.{Trees.{nodes}, declared.record.{BaseEntry.{BaseEntry}, HeadEntry.{HeadEntry}, LogEntry.{LogEntry}}}
+use Rattle.rm_catalog.specs.declared.record.{MarkEntry.{MarkEntry}, PartEntry.{PartEntry}, PieceEntry.{PieceEntry}, Record.{Record}}
+use Rattle.rm_catalog.specs.declared.record.{SetEntry.{SetEntry}, SwitchEntry.{SwitchEntry}, Record.TheVariants as kind}
 use Rattle.rm_history.specs.declared.world.Datafile.{Datafile}
-use Rattle.rm_catalog_typed.specs.Ledger.{Ledger}
+use Rattle.rm_catalog_typed.specs.{Ledger.{Ledger}, TypedCatalog.{TypedCatalog, Saved}, declared.thread_switch.ThreadSwitch.{ThreadSwitch}}
 use Rattle.rm_evidence.specs.Database.{created_by, datafiles}
-use Rattle.rm_catalog_typed.specs.TypedCatalog.{TypedCatalog, Saved}
-use Rattle.rm_catalog_typed.specs.declared.thread_switch.ThreadSwitch.{ThreadSwitch}
 
 -- the records of each kind, one kind after the other
 abbrev pub by_kind : List Record → List Record

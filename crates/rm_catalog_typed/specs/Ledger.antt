@@ -1,14 +1,9 @@
 -- The records of a database, told kind by kind.
 use Rattle.std.specs.Prelude.{ℕ, ◌+◌, List, [], ◌∷◌, ◌++◌, map}
 use Rattle.rm_base.specs.declared.block.Mark.{Mark}
-use Rattle.rm_catalog.specs.declared.record.BaseEntry.{BaseEntry}
-use Rattle.rm_catalog.specs.declared.record.LogEntry.{LogEntry}
-use Rattle.rm_catalog.specs.declared.record.PieceEntry.{PieceEntry}
-use Rattle.rm_catalog.specs.declared.record.Record.{Record}
-use Rattle.rm_catalog.specs.declared.record.SetEntry.{SetEntry}
-use Rattle.rm_catalog.specs.declared.record.Record.TheVariants as kind
-use Rattle.rm_history.specs.declared.tree.Incarnation.{Incarnation}
-use Rattle.rm_history.specs.declared.world.Datafile.{Datafile}
+use Rattle.rm_catalog.specs.declared.record.{BaseEntry.{BaseEntry}, LogEntry.{LogEntry}, PieceEntry.{PieceEntry}, Record.{Record}}
+use Rattle.rm_catalog.specs.declared.record.{SetEntry.{SetEntry}, Record.TheVariants as kind}
+use Rattle.rm_history.specs.declared.{tree.Incarnation.{Incarnation}, world.Datafile.{Datafile}}
 use Rattle.rm_catalog_typed.specs.declared.thread_switch.ThreadSwitch.{ThreadSwitch}
 
 pub record Ledger : Type 0 where

@@ -1,20 +1,12 @@
 -- What is true of each ledger: its records are valid, and these are the rules in its own words.
 use Rattle.std.specs.Prelude.{◌≡◌, ◌≢◌, ℕ, ◌-◌, ◌<◌, ◌≤◌, Some, List, All, AllPairs, Contains, length, slice_get, sum_by}
-use Rattle.rm_base.specs.Numbers.{last_scn, last_moment}
-use Rattle.rm_base.specs.declared.block.Mark.{Mark}
-use Rattle.rm_catalog.specs.declared.record.BaseEntry.{BaseEntry}
-use Rattle.rm_catalog.specs.declared.record.LogEntry.{LogEntry}
-use Rattle.rm_catalog.specs.declared.record.PieceEntry.{PieceEntry}
-use Rattle.rm_catalog.specs.declared.record.SetEntry.{SetEntry}
+use Rattle.rm_base.specs.{Numbers.{last_scn, last_moment}, declared.block.Mark.{Mark}}
+use Rattle.rm_catalog.specs.{Facts.{IsPolicy}, Objects.{most_bytes, FitsKind, FitsRows, IsTag}, SetRules.{FitsPartKind, IsBeforePart}}
+use Rattle.rm_catalog.specs.declared.record.{BaseEntry.{BaseEntry}, LogEntry.{LogEntry}, PieceEntry.{PieceEntry}, SetEntry.{SetEntry}}
 use Rattle.rm_catalog.specs.declared.record.SetPart.{SetPart}
-use Rattle.rm_catalog.specs.Facts.{IsPolicy}
-use Rattle.rm_catalog.specs.Objects.{most_bytes, FitsKind, FitsRows, IsTag}
-use Rattle.rm_catalog.specs.SetRules.{FitsPartKind, IsBeforePart}
-use Rattle.rm_history.specs.declared.tree.Incarnation.{Incarnation}
+use Rattle.rm_history.specs.{Tree.{IsThere, parent_of, reset_of, end_of, owner}, declared.tree.Incarnation.{Incarnation}}
 use Rattle.rm_history.specs.declared.world.Datafile.{Datafile}
-use Rattle.rm_history.specs.Tree.{IsThere, parent_of, reset_of, end_of, owner}
-use Rattle.rm_catalog_typed.specs.Ledger.{Ledger, ledger_records}
-use Rattle.rm_catalog_typed.specs.Switches.{ComeInTurn}
+use Rattle.rm_catalog_typed.specs.{Ledger.{Ledger, ledger_records}, Switches.{ComeInTurn}}
 
 -- the base facts, the current incarnation left aside
 pub record IsBase (b : BaseEntry) : Type 0 where

@@ -1,11 +1,8 @@
 -- What loading answers.
 use Rattle.std.specs.Prelude.{List, Option, Result, Ok, Err}
-use Rattle.rm_catalog.specs.declared.catalog.CatalogFault.{CatalogFault}
-use Rattle.rm_catalog.specs.declared.record.BaseEntry.{BaseEntry}
-use Rattle.rm_catalog.specs.declared.record.Record.{Record}
+use Rattle.rm_catalog.specs.declared.{catalog.CatalogFault.{CatalogFault}, record.{BaseEntry.{BaseEntry}, Record.{Record}}}
 use Rattle.rm_history.specs.declared.tree.Incarnation.{Incarnation}
-use Rattle.rm_catalog_typed.specs.Kinds.{Told, saved_in}
-use Rattle.rm_catalog_typed.specs.TypedCatalog.{TypedCatalog, all_records}
+use Rattle.rm_catalog_typed.specs.{Kinds.{Told, saved_in}, TypedCatalog.{TypedCatalog, all_records}}
 
 -- the records of what was loaded
 abbrev pub records_in : Result (Option TypedCatalog) CatalogFault → Result (List Record) CatalogFault

@@ -1,6 +1,5 @@
 -- Where an object of an id stands among those that ascend by id, or would stand.
-use Rattle.std.specs.Prelude.{◌≡◌, ◌==◌, ◌<◌, ◌≤◌, ℕ, List, None, find, length, slice_get, slice_set}
-use Rattle.std.specs.List.{insert, remove}
+use Rattle.std.specs.{Prelude.{◌≡◌, ◌==◌, ◌<◌, ◌≤◌, ℕ, List, None, find, length, slice_get, slice_set}, List.{insert, remove}}
 use Rattle.rm_catalog_typed.specs.Changes.{with_one, without_one}
 
 -- the one of id n stands at place i

@@ -1,11 +1,8 @@
 -- The switches of redo threads, and which threads are enabled at each address.
 use Rattle.std.specs.Prelude.{◌≡◌, ℕ, ◌<◌, ◌≤◌, ◌==◌, ◌&&◌, ◌||◌, not, Bool, true, List, [], ◌∷◌, Some, All, fold, if◌then◌else◌, map, slice_get, take}
-use Rattle.rm_history.specs.declared.tree.Incarnation.{Incarnation}
+use Rattle.rm_history.specs.{Threads.{is_enabled}, Tree.{IsThere, reset_of, end_of}, declared.tree.Incarnation.{Incarnation}}
 use Rattle.rm_history.specs.declared.world.Switch.{Switch}
-use Rattle.rm_history.specs.Threads.{is_enabled}
-use Rattle.rm_history.specs.Tree.{IsThere, reset_of, end_of}
-use Rattle.rm_catalog_typed.specs.Ledger.{Ledger}
-use Rattle.rm_catalog_typed.specs.declared.thread_switch.ThreadSwitch.{ThreadSwitch}
+use Rattle.rm_catalog_typed.specs.{Ledger.{Ledger}, declared.thread_switch.ThreadSwitch.{ThreadSwitch}}
 
 -- the switch as a history has it
 abbrev pub switch_of : ThreadSwitch → Switch

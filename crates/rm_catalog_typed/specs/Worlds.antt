@@ -1,8 +1,7 @@
 -- The database of which a ledger tells.
 use Rattle.rm_history.specs.declared.world.World.{World}
 use Rattle.rm_evidence.specs.Database.{Database}
-use Rattle.rm_catalog_typed.specs.Ledger.{Ledger}
-use Rattle.rm_catalog_typed.specs.Switches.{switches_of}
+use Rattle.rm_catalog_typed.specs.{Ledger.{Ledger}, Switches.{switches_of}}
 
 -- as recovery knows it
 abbrev pub world_of : Ledger → World

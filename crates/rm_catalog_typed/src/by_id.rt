@@ -1,8 +1,6 @@
 //! Logs, pieces and sets, which ascend by id: one is found, put or taken away.
-ghost use Rattle.std.specs.Prelude.{ℕ, ◌≡◌, ◌<◌, ◌==◌, AllPairs, MatchResult, find, OnOk, OnErr};
-ghost use Rattle.std.specs.Option.{option_copied};
-ghost use Rattle.rm_catalog_typed.specs.Changes.{with_one, without_one};
-ghost use Rattle.rm_catalog_typed.specs.Places.{IsAt, IsGap};
+ghost use Rattle.std.specs.{Prelude.{ℕ, ◌≡◌, ◌<◌, ◌==◌, AllPairs, MatchResult, find, OnOk, OnErr}, Option.{option_copied}};
+ghost use Rattle.rm_catalog_typed.specs.{Changes.{with_one, without_one}, Places.{IsAt, IsGap}};
 
 use rm_base::NoMemory;
 use rm_catalog::{LogEntry, PieceEntry, SetEntry};

@@ -1,6 +1,5 @@
 //! The records of a database, kind by kind.
-ghost use Rattle.std.specs.Prelude.{◌≡◌, ◌==◌, find};
-ghost use Rattle.std.specs.Option.{option_copied};
+ghost use Rattle.std.specs.{Prelude.{◌≡◌, ◌==◌, find}, Option.{option_copied}};
 ghost use Rattle.rm_catalog_typed.specs.Facts.{IsTypedCatalog};
 
 use crate::by_id;
@@ -40,8 +39,7 @@ pub struct TypedCatalog {
 }
 
 impl Model for TypedCatalog {
-    ghost use Rattle.rm_catalog_typed.specs.Facts.{IsTypedCatalog};
-    ghost use Rattle.rm_catalog_typed.specs.TypedCatalog.{TypedCatalog};
+    ghost use Rattle.rm_catalog_typed.specs.{Facts.{IsTypedCatalog}, TypedCatalog.{TypedCatalog}};
 
     ghost Value = { TypedCatalog };
 

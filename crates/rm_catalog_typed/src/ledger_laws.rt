@@ -1,11 +1,8 @@
 //! What the definitions of a ledger mean.
 ghost use Rattle.std.specs.Prelude.{ℕ, ◌≡◌, ◌≤◌, []};
 ghost use Rattle.rm_base.specs.Numbers.{last_scn, last_moment};
-ghost use Rattle.rm_catalog.specs.Edits.{after_edits};
-ghost use Rattle.rm_catalog.specs.Rules.{IsCatalog};
-ghost use Rattle.rm_catalog_typed.specs.LedgerFacts.{IsLedger};
-ghost use Rattle.rm_catalog_typed.specs.Fresh.{fresh, fresh_edits};
-ghost use Rattle.rm_catalog_typed.specs.Ledger.{Ledger, ledger_records};
+ghost use Rattle.rm_catalog.specs.{Edits.{after_edits}, Rules.{IsCatalog}};
+ghost use Rattle.rm_catalog_typed.specs.{LedgerFacts.{IsLedger}, Fresh.{fresh, fresh_edits}, Ledger.{Ledger, ledger_records}};
 
 /// The records of a ledger are a catalog's.
 pub fn a_ledger_is_valid()

@@ -1,14 +1,9 @@
 //! Valid records become a catalog.
 ghost use Rattle.std.specs.Prelude.{◌≡◌, ◌≤◌, ◌<◌, ◌^◌, List, IfOk, IfErr, OnOk, []};
-ghost use Rattle.rm_catalog.specs.declared.record.Key.{Key};
-ghost use Rattle.rm_catalog.specs.declared.record.Record.{Record};
-ghost use Rattle.rm_catalog.specs.Faults.{IsBadRow, IsTaken, IsTold};
-ghost use Rattle.rm_catalog.specs.Rules.{IsCatalog, IsFirstBad, IsOrderOf, IsValid};
-ghost use Rattle.rm_catalog.specs.Trees.{nodes};
-ghost use Rattle.rm_catalog_typed.specs.Kinds.{AreSmall, IsSmall, told_by, with_record};
-ghost use Rattle.rm_catalog_typed.specs.Facts.{IsTypedCatalog};
-ghost use Rattle.rm_catalog_typed.specs.Loading.{gathered, records_in};
-ghost use Rattle.rm_catalog_typed.specs.TypedCatalog.{all_records, records_of};
+ghost use Rattle.rm_catalog.specs.{Faults.{IsBadRow, IsTaken, IsTold}, Rules.{IsCatalog, IsFirstBad, IsOrderOf, IsValid}, Trees.{nodes}};
+ghost use Rattle.rm_catalog.specs.declared.record.{Key.{Key}, Record.{Record}};
+ghost use Rattle.rm_catalog_typed.specs.{Kinds.{AreSmall, IsSmall, told_by, with_record}, Facts.{IsTypedCatalog}};
+ghost use Rattle.rm_catalog_typed.specs.{Loading.{gathered, records_in}, TypedCatalog.{all_records, records_of}};
 
 use crate::catalog::{Saved, TypedCatalog};
 use crate::thread_switch::ThreadSwitch;

@@ -1,7 +1,6 @@
 //! The saved site of a catalog: it is set, and cleared.
 ghost use Rattle.std.specs.Prelude.{◌≡◌, ◌++◌, OnOk, OnErr, None};
-ghost use Rattle.rm_catalog_typed.specs.Changes.{EditsFollow, saved_edits, unsaved_edits, with_saved, without_saved};
-ghost use Rattle.rm_catalog_typed.specs.Facts.{IsSaved};
+ghost use Rattle.rm_catalog_typed.specs.{Changes.{EditsFollow, saved_edits, unsaved_edits, with_saved, without_saved}, Facts.{IsSaved}};
 
 use crate::catalog::{Saved, TypedCatalog};
 use crate::edits::{drop_parts, push, put_parts};

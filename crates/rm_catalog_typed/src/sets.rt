@@ -1,7 +1,6 @@
 //! Changes of backup sets. Each adds the edit that makes the records follow.
 ghost use Rattle.std.specs.Prelude.{◌≡◌, ◌≤◌, OnOk, OnErr};
-ghost use Rattle.rm_catalog_typed.specs.Changes.{EditsFollow, with_new_set, with_set, without_set};
-ghost use Rattle.rm_catalog_typed.specs.Fitting.{FitsNewSet, FitsSet};
+ghost use Rattle.rm_catalog_typed.specs.{Changes.{EditsFollow, with_new_set, with_set, without_set}, Fitting.{FitsNewSet, FitsSet}};
 
 use crate::by_id;
 use crate::catalog::TypedCatalog;

@@ -1,9 +1,7 @@
 //! A new catalog, and a catalog at the moment of a statement.
 ghost use Rattle.std.specs.Prelude.{◌≡◌, ◌≤◌, IfOk, OnOk, None};
 ghost use Rattle.rm_base.specs.Numbers.{last_moment, last_scn};
-ghost use Rattle.rm_catalog_typed.specs.Fresh.{fresh};
-ghost use Rattle.rm_catalog_typed.specs.Changes.{EditsFollow, with_moment, without_saved};
-ghost use Rattle.rm_catalog_typed.specs.Facts.{IsTypedCatalog};
+ghost use Rattle.rm_catalog_typed.specs.{Fresh.{fresh}, Changes.{EditsFollow, with_moment, without_saved}, Facts.{IsTypedCatalog}};
 ghost use Rattle.rm_catalog_typed.specs.Starting.{with_earlier};
 
 use crate::catalog::{Saved, TypedCatalog};

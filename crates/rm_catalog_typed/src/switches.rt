@@ -1,9 +1,7 @@
 //! The switches of redo threads: which threads are enabled at an address, and one switch more.
 ghost use Rattle.std.specs.Prelude.{◌≡◌, ◌<◌, ◌≤◌, All, OnOk, OnErr, fold, map};
-ghost use Rattle.rm_history.specs.Threads.{applies, last_switch};
-ghost use Rattle.rm_history.specs.Tree.{IsThere};
-ghost use Rattle.rm_catalog_typed.specs.Changes.{EditsFollow, with_switch};
-ghost use Rattle.rm_catalog_typed.specs.Fitting.{FitsSwitch};
+ghost use Rattle.rm_history.specs.{Threads.{applies, last_switch}, Tree.{IsThere}};
+ghost use Rattle.rm_catalog_typed.specs.{Changes.{EditsFollow, with_switch}, Fitting.{FitsSwitch}};
 ghost use Rattle.rm_catalog_typed.specs.Switches.{after_sequence, enabled_at, is_enabled_in, next_sequence, switch_of};
 
 use crate::catalog::TypedCatalog;

@@ -2,24 +2,13 @@
 use Rattle.std.proofs.Common.{◌≡◌, ℕ, ◌<◌, IfSome, Option, Result, Ok, Err, IfOk, List, [], ◌∷◌, ◌++◌, All, false, length, map, refl, sym, ap, ◌∙◌, subst}
 use Rattle.std.proofs.lemmas.List.{length-map}
 use Rattle.rm_base.specs.declared.block.Row.{Row}
-use Rattle.rm_live.specs.declared.history.Call.{Call}
-use Rattle.rm_live.specs.declared.history.Event.{Event}
+use Rattle.rm_live.specs.{History.{IsLegal, fold_of}, Passes.{Standing, IsOnly}, declared.history.{Call.{Call}, Event.{Event}}}
 use Rattle.rm_live.specs.declared.history.LiveFault.{LiveFault}
-use Rattle.rm_live.specs.History.{IsLegal, fold_of}
-use Rattle.rm_live.specs.Passes.{Standing, IsOnly}
-use Rattle.rm_channel.specs.declared.jobs.CopyJob.{CopyJob}
-use Rattle.rm_channel.specs.declared.jobs.Work.{Work}
-use Rattle.rm_channel.specs.declared.jobs.WriteJob.{WriteJob}
-use Rattle.rm_channel.specs.declared.working.Done.{Done}
 use Rattle.rm_channel.specs.Jobs.{Deed, Span, AreAsLong, AreRows, blocks_in, deeds_of, lists, reads_of, whole, writes_of}
-use Rattle.rm_channel.specs.Made.{deed, AreBegun, AreThese, Ran}
-use Rattle.rm_channel.specs.Room.{AreThreads, CanWrite}
-use Rattle.rm_channel.specs.Runs.{HasCopied, HasRun, IsWork, is_refused, told_of, work_told}
-use Rattle.rm_channel.specs.Sections.{sections}
-use Rattle.rm_channel.proofs.Counts.{NoWrites, has-room, no-reads_of}
-use Rattle.rm_channel.proofs.Mine.{mine-all}
-use Rattle.rm_channel.proofs.Rooms.{accepted}
-use Rattle.rm_channel.proofs.Whole.{whole-sections}
+use Rattle.rm_channel.specs.{Made.{deed, AreBegun, AreThese, Ran}, Room.{AreThreads, CanWrite}}
+use Rattle.rm_channel.specs.{Runs.{HasCopied, HasRun, IsWork, is_refused, told_of, work_told}, Sections.{sections}}
+use Rattle.rm_channel.specs.declared.{jobs.{CopyJob.{CopyJob}, Work.{Work}, WriteJob.{WriteJob}}, working.Done.{Done}}
+use Rattle.rm_channel.proofs.{Counts.{NoWrites, has-room, no-reads_of}, Mine.{mine-all}, Rooms.{accepted}, Whole.{whole-sections}}
 
 -- SCNs, as answers
 abbrev pub as_answers : List (List ℕ) → List (List (Result ℕ LiveFault))

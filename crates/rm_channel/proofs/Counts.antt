@@ -4,21 +4,12 @@ use mathlib.Core.Logic.{dite}
 use native.Mathlib.Decide.{ℕ_discrete}
 use Rattle.std.proofs.lemmas.List.Elements.{All-head, All-tail}
 use Rattle.rm_base.specs.declared.block.Row.{Row}
-use Rattle.rm_redo.specs.Logs.{Logs}
-use Rattle.rm_redo.specs.Online.{IsThread, thread_records}
-use Rattle.rm_live.specs.declared.history.Call.{Call}
-use Rattle.rm_live.specs.declared.history.Call.TheVariants.{Mend, Read, Write}
-use Rattle.rm_live.specs.declared.history.Event.{Event}
-use Rattle.rm_live.specs.Parts.{Parts, row_at}
-use Rattle.rm_live.specs.History.{fold_of}
-use Rattle.rm_live.specs.Ruled.{one_if, total}
-use Rattle.rm_live.proofs.Sound.{fold-thread}
-use Rattle.rm_channel.specs.declared.jobs.WriteJob.{WriteJob}
-use Rattle.rm_channel.specs.Jobs.{Deed, Span, reads, reads_of, writes, writes_of}
-use Rattle.rm_channel.specs.Made.{deed, is_by, AreBegun}
-use Rattle.rm_channel.specs.Room.{AreThreads, CanWrite, HasBlock, HaveRoom}
-use Rattle.rm_channel.proofs.Mine.{total-append}
-use Rattle.rm_channel.proofs.Rooms.{HasRoom, by-self, by-other, count, is_lost, is_write, off-by}
+use Rattle.rm_redo.specs.{Logs.{Logs}, Online.{IsThread, thread_records}}
+use Rattle.rm_live.specs.{Parts.{Parts, row_at}, History.{fold_of}, Ruled.{one_if, total}, declared.history.Call.{Call}}
+use Rattle.rm_live.{specs.declared.history.{Call.TheVariants.{Mend, Read, Write}, Event.{Event}}, proofs.Sound.{fold-thread}}
+use Rattle.rm_channel.specs.{Jobs.{Deed, Span, reads, reads_of, writes, writes_of}, Made.{deed, is_by, AreBegun}}
+use Rattle.rm_channel.specs.{Room.{AreThreads, CanWrite, HasBlock, HaveRoom}, declared.jobs.WriteJob.{WriteJob}}
+use Rattle.rm_channel.proofs.{Mine.{total-append}, Rooms.{HasRoom, by-self, by-other, count, is_lost, is_write, off-by}}
 
 abbrev ones : (Call → Bool) → Call → ℕ
 ones f c = one_if (f c)

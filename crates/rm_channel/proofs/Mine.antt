@@ -1,12 +1,8 @@
 -- What events did that bear some numbers.
 use Rattle.std.proofs.Common.{◌≡◌, ℕ, ◌+◌, ◌<◌, ◌≤◌, ◌⊎◌, inl, inr, Bool, true, false, List, [], ◌∷◌, ◌++◌, length, filter, map, nat_lt, if◌then◌else◌, refl, sym, ap, ◌∙◌, arith, append-nil, lt-ltb, ltb-true, ltb-false, eq-eqb}
-use Rattle.rm_live.specs.declared.history.Event.{Event}
-use Rattle.rm_live.specs.History.{times, Foreign}
-use Rattle.rm_live.specs.Passes.{first_of}
-use Rattle.rm_live.specs.Ruled.{AreShares, Below, once_below, one_if, total}
-use Rattle.rm_live.proofs.Totals.{times_append}
-use Rattle.rm_channel.specs.Jobs.{Deed}
-use Rattle.rm_channel.specs.Made.{deed, mine}
+use Rattle.rm_live.specs.{History.{times, Foreign}, Passes.{first_of}, Ruled.{AreShares, Below, once_below, one_if, total}}
+use Rattle.rm_live.{specs.declared.history.Event.{Event}, proofs.Totals.{times_append}}
+use Rattle.rm_channel.specs.{Jobs.{Deed}, Made.{deed, mine}}
 
 pub total-append : {X : Type 0} (h : X → ℕ) (xs ys : List X) → total h (xs ++ ys) ≡ total h xs + total h ys
 total-append h [] ys = omega arith

@@ -3,25 +3,14 @@ use Rattle.std.proofs.Common.{◌≡◌, ◌≢◌, ℕ, ◌+◌, ◌<◌, ◌�
 use mathlib.Core.Logic.{dite}
 use native.Mathlib.Decide.{ℕ_discrete}
 use Rattle.std.proofs.lemmas.List.Elements.{All-cons}
-use Rattle.rm_base.specs.Numbers.{last_scn}
-use Rattle.rm_base.specs.declared.block.Block.{Block}
-use Rattle.rm_base.specs.declared.block.Change.{Change}
-use Rattle.rm_base.specs.declared.block.Row.{Row}
+use Rattle.rm_base.specs.{Numbers.{last_scn}, declared.block.{Block.{Block}, Change.{Change}, Row.{Row}}}
 use Rattle.rm_redo.specs.Online.{IsThread, thread_records, record_of, with_change}
 use Rattle.rm_redo.proofs.Logs.{IsThread-with_change, thread_records-with_change, thread_records-with_change_other}
-use Rattle.rm_live.specs.declared.history.Answer.{Answer}
-use Rattle.rm_live.specs.declared.history.Answer.TheVariants.{Found, Mended, Wrote}
-use Rattle.rm_live.specs.declared.history.Call.{Call}
-use Rattle.rm_live.specs.declared.history.Call.TheVariants.{Mend, Read, Write}
-use Rattle.rm_live.specs.declared.history.Event.{Event}
-use Rattle.rm_live.specs.declared.history.LiveFault.{LiveFault}
+use Rattle.rm_live.specs.{Parts.{Parts, row_at, refusal_by, refusal_of, with_put}, History.{IsLegal, IsRight, IsWrite, after, with_write}}
+use Rattle.rm_live.specs.{Ruled.{total, one_if}, declared.history.{Answer.{Answer, TheVariants.{Found, Mended, Wrote}}, Call.{Call}}}
+use Rattle.rm_live.specs.declared.history.{Call.TheVariants.{Mend, Read, Write}, Event.{Event}, LiveFault.{LiveFault}}
 use Rattle.rm_live.specs.declared.history.LiveFault.TheVariants.{NoBlock, Full, LastScn, NoMemory}
-use Rattle.rm_live.specs.Parts.{Parts, row_at, refusal_by, refusal_of, with_put}
-use Rattle.rm_live.specs.History.{IsLegal, IsRight, IsWrite, after, with_write}
-use Rattle.rm_live.specs.Ruled.{total, one_if}
-use Rattle.rm_channel.specs.Made.{is_by}
-use Rattle.rm_channel.specs.Runs.{is_refused}
-use Rattle.rm_channel.proofs.There.{there-after}
+use Rattle.rm_channel.{specs.{Made.{is_by}, Runs.{is_refused}}, proofs.There.{there-after}}
 
 -- a write of a block that is not there
 abbrev pub is_lost : Parts → Call → Bool

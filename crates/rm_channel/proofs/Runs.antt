@@ -1,17 +1,10 @@
 -- What several workers did, together.
 use Rattle.std.proofs.Common.{◌≡◌, ℕ, ◌+◌, ◌⊎◌, inl, inr, ⊎_elim, Bool, true, false, Option, Some, None, IfSome, List, [], ◌∷◌, ◌++◌, filter, map, cond, refl, sym, ap, ap₂, ◌∙◌, subst, arith, append-nil, append_assoc}
 use Rattle.std.proofs.lemmas.List.Elements.{filter-append}
-use Rattle.rm_live.specs.declared.history.Call.{Call}
-use Rattle.rm_live.specs.declared.history.Event.{Event}
-use Rattle.rm_live.specs.Parts.{Parts}
-use Rattle.rm_live.specs.History.{IsLegal, Foreign, Past}
-use Rattle.rm_live.specs.Passes.{Standing, IsLater, joined}
-use Rattle.rm_live.specs.Ruled.{AreShares, Below, total}
-use Rattle.rm_live.proofs.Totals.{below_rest}
-use Rattle.rm_channel.specs.Jobs.{Deed}
-use Rattle.rm_channel.specs.Made.{call, mine, is_by, did_by, AreThese, AreBegun, Ran, Worked}
-use Rattle.rm_channel.proofs.Mine.{total-append, mine-append, mine-foreign, total-both, filter-both}
-use Rattle.rm_channel.proofs.Steps.{legal-behind}
+use Rattle.rm_live.specs.{Parts.{Parts}, History.{IsLegal, Foreign, Past}, Passes.{Standing, IsLater, joined}}
+use Rattle.rm_live.{specs.{Ruled.{AreShares, Below, total}, declared.history.{Call.{Call}, Event.{Event}}}, proofs.Totals.{below_rest}}
+use Rattle.rm_channel.specs.{Jobs.{Deed}, Made.{call, mine, is_by, did_by, AreThese, AreBegun, Ran, Worked}}
+use Rattle.rm_channel.proofs.{Mine.{total-append, mine-append, mine-foreign, total-both, filter-both}, Steps.{legal-behind}}
 
 -- as many of each call, and each thread's writes in the same order
 pub record SameCalls (xs ys : List Call) : Type 0 where

@@ -1,9 +1,8 @@
 -- Rows beside rows.
-use Rattle.std.proofs.Common.{◌≡◌, ℕ, zero, suc, ◌+◌, ◌<◌, List, [], ◌∷◌, ◌++◌, Vec, length, take, set, get_or, refl, sym, ap, ◌∙◌, arith}
 use Rattle.std.specs.Global.{Global}
+use Rattle.std.proofs.Common.{◌≡◌, ℕ, zero, suc, ◌+◌, ◌<◌, List, [], ◌∷◌, ◌++◌, Vec, length, take, set, get_or, refl, sym, ap, ◌∙◌, arith}
 use Rattle.std.proofs.lemmas.List.{map-set, get_or-map, length-map}
-use Rattle.rm_channel.specs.Jobs.{lists}
-use Rattle.rm_channel.specs.Runs.{side_by_side}
+use Rattle.rm_channel.specs.{Jobs.{lists}, Runs.{side_by_side}}
 
 pub side-none : {X : Type 0} (xs : List (List X)) → xs ≡ side_by_side xs []
 side-none [] = refl

@@ -1,17 +1,9 @@
 -- What one worker did, call after call.
 use mathlib.Core.List.{map-append}
 use Rattle.std.proofs.Common.{◌≡◌, ℕ, ◌<◌, Option, Some, None, List, [], ◌∷◌, ◌++◌, length, map, refl, sym, ap, ◌∙◌, subst, append-nil, append_assoc}
-use Rattle.rm_live.specs.declared.history.Answer.{Answer}
-use Rattle.rm_live.specs.declared.history.Call.{Call}
-use Rattle.rm_live.specs.declared.history.Event.{Event}
-use Rattle.rm_live.specs.Parts.{Parts}
-use Rattle.rm_live.specs.History.{IsLegal, after, fold_of}
-use Rattle.rm_live.specs.Passes.{Standing, IsLater, Adds, made}
-use Rattle.rm_live.specs.Ruled.{Below}
-use Rattle.rm_live.proofs.Totals.{below_rest}
-use Rattle.rm_channel.specs.Jobs.{Deed}
-use Rattle.rm_channel.specs.Made.{call, mine, Did, Worked}
-use Rattle.rm_channel.proofs.Mine.{mine-append, mine-foreign, mine-one, first-times}
+use Rattle.rm_live.specs.{Parts.{Parts}, History.{IsLegal, after, fold_of}, Passes.{Standing, IsLater, Adds, made}, Ruled.{Below}}
+use Rattle.rm_live.{specs.declared.history.{Answer.{Answer}, Call.{Call}, Event.{Event}}, proofs.Totals.{below_rest}}
+use Rattle.rm_channel.{specs.{Jobs.{Deed}, Made.{call, mine, Did, Worked}}, proofs.Mine.{mine-append, mine-foreign, mine-one, first-times}}
 
 pub fold-append : (o : Parts) (xs ys : List Event) → fold_of o (xs ++ ys) ≡ fold_of (fold_of o xs) ys
 fold-append o [] ys = refl

@@ -1,24 +1,15 @@
 -- One turn of each worker's loop, and its end.
 use mathlib.Core.List.{map-append}
+use Rattle.std.specs.{Option.{option_map}, Result.{result_ok}, Global.{Global}}
 use Rattle.std.proofs.Common.{◌≡◌, ℕ, ◌+◌, ◌<◌, Option, Some, None, Result, Vec, List, [], ◌∷◌, ◌++◌, length, map, take, drop, get_or, sym, ap, ◌∙◌, subst, arith, append-nil, append_assoc, length-append, take-append-drop, IsErr, Ok, Err}
-use Rattle.std.proofs.lemmas.List.{length-map}
-use Rattle.std.specs.Option.{option_map}
-use Rattle.std.specs.Result.{result_ok}
-use Rattle.std.specs.Global.{Global}
-use Rattle.std.proofs.lemmas.List.{take_more}
+use Rattle.std.proofs.lemmas.List.{length-map, take_more}
 use Rattle.rm_base.specs.declared.block.Row.{Row}
-use Rattle.rm_live.specs.declared.history.Call.{Call}
-use Rattle.rm_live.specs.declared.history.Event.{Event}
-use Rattle.rm_live.specs.declared.history.LiveFault.{LiveFault}
-use Rattle.rm_live.specs.Passes.{Standing, IsLater}
-use Rattle.rm_channel.specs.declared.jobs.CopyJob.{CopyJob}
-use Rattle.rm_channel.specs.declared.jobs.WriteJob.{WriteJob}
+use Rattle.rm_live.specs.{Passes.{Standing, IsLater}, declared.history.{Call.{Call}, Event.{Event}, LiveFault.{LiveFault}}}
 use Rattle.rm_channel.specs.Jobs.{Deed, Span, AreRows, blocks_in, found, found_of, lists, reads, reads_of, wanted_blocks, writes, wrote}
-use Rattle.rm_channel.specs.Made.{Did, DidMore, Worked}
-use Rattle.rm_channel.specs.Sections.{between, section, sections, cut}
+use Rattle.rm_channel.specs.{Made.{Did, DidMore, Worked}, Sections.{between, section, sections, cut}, declared.jobs.CopyJob.{CopyJob}}
+use Rattle.rm_channel.specs.declared.jobs.WriteJob.{WriteJob}
 use Rattle.rm_channel.proofs.Spans.{found_of-append, reads_of-append, calls-found, calls-found_of}
-use Rattle.rm_channel.proofs.Steps.{did-then, worked-all, worked-some}
-use Rattle.rm_channel.proofs.Writes.{calls-wrote}
+use Rattle.rm_channel.proofs.{Steps.{did-then, worked-all, worked-some}, Writes.{calls-wrote}}
 
 -- without an answer nothing is told of it
 pub worked-err : {T E : Type 0} (p : Standing) (seen : List Event) (calls : List Call) (f : T → List Deed) (r : Result T E) → IsErr r → Worked p seen calls None → Worked p seen calls (option_map f (result_ok r))

@@ -1,13 +1,9 @@
 -- Writes of lists, by one thread each.
 use Rattle.std.proofs.Common.{◌≡◌, ℕ, suc, ◌+◌, ◌<◌, ◌≤◌, Result, List, [], ◌∷◌, ◌++◌, length, filter, map, refl, sym, ap, ◌∙◌, arith, append_assoc, ne_eqb}
 use Rattle.std.proofs.lemmas.List.Elements.{filter-append}
-use Rattle.rm_live.specs.declared.history.Answer.TheVariants.{Wrote}
-use Rattle.rm_live.specs.declared.history.Call.{Call}
-use Rattle.rm_live.specs.declared.history.Call.TheVariants.{Write}
-use Rattle.rm_live.specs.declared.history.LiveFault.{LiveFault}
+use Rattle.rm_live.specs.declared.history.{Answer.TheVariants.{Wrote}, Call.{Call, TheVariants.{Write}}, LiveFault.{LiveFault}}
+use Rattle.rm_channel.specs.{Jobs.{Deed, writes, writes_of, wrote, wrote_of, AreAsLong}, Made.{call, is_by}}
 use Rattle.rm_channel.specs.declared.jobs.WriteJob.{WriteJob}
-use Rattle.rm_channel.specs.Jobs.{Deed, writes, writes_of, wrote, wrote_of, AreAsLong}
-use Rattle.rm_channel.specs.Made.{call, is_by}
 
 abbrev Answers : Type 0
 Answers = List (Result ℕ LiveFault)

@@ -1,20 +1,11 @@
 -- Lists of writes alone, as a share without sections.
+use Rattle.std.specs.{Global.{Global}, Option.{option_map}, Result.{result_ok}}
 use Rattle.std.proofs.Common.{◌≡◌, ◌∙◌, ℕ, ◌+◌, ◌≤◌, Some, Option, Result, Ok, Err, IfOk, List, [], Vec, length, refl, ap, subst, arith}
-use Rattle.std.specs.Global.{Global}
-use Rattle.std.specs.Option.{option_map}
-use Rattle.std.specs.Result.{result_ok}
-use Rattle.std.proofs.lemmas.List.{length-map}
-use Rattle.std.proofs.lemmas.List.Elements.{All-nil}
+use Rattle.std.proofs.lemmas.List.{length-map, Elements.{All-nil}}
 use Rattle.atomic_table.specs.Seated.{TableId}
-use Rattle.rm_live.specs.declared.history.Event.{Event}
-use Rattle.rm_live.specs.declared.history.LiveFault.{LiveFault}
-use Rattle.rm_live.specs.Passes.{Standing}
-use Rattle.rm_channel.specs.declared.jobs.WriteJob.{WriteJob}
-use Rattle.rm_channel.specs.declared.working.Done.{Done}
-use Rattle.rm_channel.specs.Jobs.{Deed, AreAsLong, lists, writes_of, wrote_of}
-use Rattle.rm_channel.specs.Made.{AreThese}
-use Rattle.rm_channel.specs.Room.{AreThreads, IsThere}
-use Rattle.rm_channel.specs.Runs.{CanRun, HasRun, HasWritten, told_of}
+use Rattle.rm_live.specs.{Passes.{Standing}, declared.history.{Event.{Event}, LiveFault.{LiveFault}}}
+use Rattle.rm_channel.specs.{Jobs.{Deed, AreAsLong, lists, writes_of, wrote_of}, Made.{AreThese}, Room.{AreThreads, IsThere}}
+use Rattle.rm_channel.specs.{Runs.{CanRun, HasRun, HasWritten, told_of}, declared.{jobs.WriteJob.{WriteJob}, working.Done.{Done}}}
 use Rattle.rm_channel.proofs.Runs.{ran-as, these-self}
 
 pub can-lists : (p : Standing) (at : TableId) (writers : List (Vec WriteJob Global)) (t : ℕ) → p.home ≡ at → 1 ≤ length writers → (1 ≤ t) × (t + length writers ≤ 5) → length writers ≤ length p.numbers → AreThreads p.opening.logs t (lists writers)

@@ -1,8 +1,6 @@
 -- Rows that take on parts.
-use Rattle.std.specs.Prelude.{ℕ, suc, ◌==◌, List, [], ◌∷◌, if◌then◌else◌}
-use Rattle.std.specs.List.Sorted.{IsNonDecreasingBy}
-use Rattle.rm_base.specs.declared.block.Part.{Part}
-use Rattle.rm_base.specs.declared.block.Row.{Row}
+use Rattle.std.specs.{Prelude.{ℕ, suc, ◌==◌, List, [], ◌∷◌, if◌then◌else◌}, List.Sorted.{IsNonDecreasingBy}}
+use Rattle.rm_base.specs.declared.block.{Part.{Part}, Row.{Row}}
 
 -- the part as a row
 abbrev pub row_of : Part → Row

@@ -1,11 +1,7 @@
 -- What calls of several workers leave in the history.
 use Rattle.std.specs.Prelude.{◌≡◌, ◌==◌, ◌≤◌, ℕ, Bool, false, Option, IfSome, List, [], ◌∷◌, ◌++◌, filter, length, map, nat_lt, if◌then◌else◌}
-use Rattle.rm_live.specs.declared.history.Call.{Call}
-use Rattle.rm_live.specs.declared.history.Call.TheVariants.{Mend, Read, Write}
-use Rattle.rm_live.specs.declared.history.Event.{Event}
-use Rattle.rm_live.specs.History.{IsLegal, fold_of, times}
-use Rattle.rm_live.specs.Passes.{Standing}
-use Rattle.rm_live.specs.Ruled.{Below, total}
+use Rattle.rm_live.specs.{History.{IsLegal, fold_of, times}, Passes.{Standing}, Ruled.{Below, total}, declared.history.Call.{Call}}
+use Rattle.rm_live.specs.declared.history.{Call.TheVariants.{Mend, Read, Write}, Event.{Event}}
 use Rattle.rm_channel.specs.Jobs.{Deed}
 
 abbrev pub deed : Event → Deed

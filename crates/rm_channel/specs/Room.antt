@@ -1,16 +1,11 @@
 -- What has to be there for a copy and for lists of writes.
-use Rattle.std.specs.Prelude.{◌≡◌, ◌≤◌, ◌<◌, ◌==◌, ℕ, suc, ◌+◌, Some, IsSome, List, [], ◌∷◌, All, length}
-use Rattle.std.specs.List.{find}
+use Rattle.std.specs.{Prelude.{◌≡◌, ◌≤◌, ◌<◌, ◌==◌, ℕ, suc, ◌+◌, Some, IsSome, List, [], ◌∷◌, All, length}, List.{find}}
 use Rattle.std.specs.Option.{option_map}
 use Rattle.rm_base.specs.Numbers.{last_scn}
 use Rattle.rm_blocks.specs.File.{File}
-use Rattle.rm_redo.specs.Logs.{Logs}
-use Rattle.rm_redo.specs.Online.{IsThread, IsLost, thread_records}
-use Rattle.rm_live.specs.Parts.{Parts, row_at}
-use Rattle.rm_live.specs.Ruled.{total}
-use Rattle.rm_channel.specs.Jobs.{IsWanted, size_of}
-use Rattle.rm_channel.specs.declared.jobs.CopyJob.{CopyJob}
-use Rattle.rm_channel.specs.declared.jobs.WriteJob.{WriteJob}
+use Rattle.rm_redo.specs.{Logs.{Logs}, Online.{IsThread, IsLost, thread_records}}
+use Rattle.rm_live.specs.{Parts.{Parts, row_at}, Ruled.{total}}
+use Rattle.rm_channel.specs.{Jobs.{IsWanted, size_of}, declared.jobs.{CopyJob.{CopyJob}, WriteJob.{WriteJob}}}
 
 -- The datafile of the job is there, and has as many blocks as the job says.
 pub record IsThere (files : List File) (j : CopyJob) : Type 0 where

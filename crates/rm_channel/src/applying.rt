@@ -1,6 +1,5 @@
 //! Parts put into rows by several threads, with the answer of one.
-ghost use Rattle.std.specs.Prelude.{ℕ, true, ◌≡◌, ◌+◌, ◌<◌, ◌≤◌, ◌^◌, List, [], ◌∷◌, length};
-ghost use Rattle.std.specs.Thread.{IsSync};
+ghost use Rattle.std.specs.{Prelude.{ℕ, true, ◌≡◌, ◌+◌, ◌<◌, ◌≤◌, ◌^◌, List, [], ◌∷◌, length}, Thread.{IsSync}};
 ghost use Rattle.rm_base.specs.declared.block.Row.{Row};
 ghost use Rattle.rm_channel.specs.Applied.{Ascend, with_parts};
 
@@ -92,7 +91,7 @@ pub fn apply_rows<R: Threads + Sync>(rt: &R, rows: &mut [Row], parts: &[Part], c
 }
 
 /// The same for parts that ascend by block, of which several may be of one: each thread looks at the parts of its
-/// own rows alone.
+/// own rows alone, the last one also at those beyond the rows.
 pub fn apply_in_order<R: Threads + Sync>(rt: &R, rows: &mut [Row], parts: &[Part], channels: u32)
     requires room { length rows.old < 2 ^ 63 }
     requires order { Ascend parts.now }

@@ -1,11 +1,8 @@
 //! Copies of datafiles by several threads, beside writes by others.
 ghost use Rattle.std.specs.Prelude.{◌≡◌, ◌+◌, ◌-◌, ◌<◌, ◌≤◌, Ok, [], ◌∷◌, length, map, All, IfOk};
-ghost use Rattle.rm_live.specs.History.{fold_of};
-ghost use Rattle.rm_live.specs.Passes.{IsLater, IsOnly};
-ghost use Rattle.rm_channel.specs.Jobs.{IsWanted, blocks_in, lists};
-ghost use Rattle.rm_channel.specs.Room.{AreThreads, CanWrite, IsThere};
-ghost use Rattle.rm_channel.specs.Runs.{CanRun, HasCopied, HasRead, HasRun, IsGathered, IsWork, side_by_side};
-ghost use Rattle.rm_channel.specs.Sections.{sections};
+ghost use Rattle.rm_live.specs.{History.{fold_of}, Passes.{IsLater, IsOnly}};
+ghost use Rattle.rm_channel.specs.{Jobs.{IsWanted, blocks_in, lists}, Room.{AreThreads, CanWrite, IsThere}};
+ghost use Rattle.rm_channel.specs.{Runs.{CanRun, HasCopied, HasRead, HasRun, IsGathered, IsWork, side_by_side}, Sections.{sections}};
 
 use crate::jobs::{CopyJob, Gate, Work, WriteJob};
 use crate::working::{Done, Share, work};

@@ -4,15 +4,10 @@
 //! have to wait for a processor. So the workers of a copy share a plain lock, and one of them holds it for a run of its
 //! turns, while the others draw no ticket: each turn is still one event. Under the lock nothing is called but the
 //! live database, and no other lock is taken.
-ghost use Rattle.std.specs.Prelude.{◌≡◌, ◌+◌, ◌≤◌, ◌<◌, [], ◌∷◌, length, All, IsSome, Some};
-ghost use Rattle.std.specs.Vec.{vec_capacity, vec_len};
+ghost use Rattle.std.specs.{Prelude.{◌≡◌, ◌+◌, ◌≤◌, ◌<◌, [], ◌∷◌, length, All, IsSome, Some}, Vec.{vec_capacity, vec_len}};
 ghost use Rattle.rm_redo.specs.Online.{IsThread, IsLost};
-ghost use Rattle.rm_live.specs.declared.history.Answer.TheVariants.{Found};
-ghost use Rattle.rm_live.specs.declared.history.Call.TheVariants.{Read};
-ghost use Rattle.rm_live.specs.Parts.{row_at};
-ghost use Rattle.rm_live.specs.Passes.{IsLater};
-ghost use Rattle.rm_channel.specs.Jobs.{found, wrote};
-ghost use Rattle.rm_channel.specs.Made.{Did, DidMore};
+ghost use Rattle.rm_live.specs.{Parts.{row_at}, Passes.{IsLater}, declared.history.{Answer.TheVariants.{Found}, Call.TheVariants.{Read}}};
+ghost use Rattle.rm_channel.specs.{Jobs.{found, wrote}, Made.{Did, DidMore}};
 
 use crate::jobs::WriteJob;
 use rm_base::{BlockNo, FileNo, Row, Scn, ThreadNo};

@@ -1,15 +1,10 @@
 //! What one worker does.
-ghost use Rattle.std.specs.Prelude.{ℕ, ◌≡◌, ◌+◌, ◌-◌, ◌≤◌, ◌<◌, List, [], ◌∷◌, length, replicate, All, IfOk, IsSome};
-ghost use Rattle.std.specs.Option.{option_map};
+ghost use Rattle.std.specs.{Prelude.{ℕ, ◌≡◌, ◌+◌, ◌-◌, ◌≤◌, ◌<◌, List, [], ◌∷◌, length, replicate, All, IfOk, IsSome}, Option.{option_map}};
 ghost use Rattle.std.specs.Result.{result_ok};
 ghost use Rattle.rm_redo.specs.Online.{IsThread, IsLost};
-ghost use Rattle.rm_live.specs.Parts.{row_at};
-ghost use Rattle.rm_live.specs.Passes.{IsLater};
+ghost use Rattle.rm_live.specs.{Parts.{row_at}, Passes.{IsLater}};
 ghost use Rattle.rm_channel.specs.Jobs.{AreAsLong, AreRows, IsWanted, blocks_in, found, found_of, lists, reads, reads_of, wanted_blocks, writes, wrote, wrote_of};
-ghost use Rattle.rm_channel.specs.Made.{Worked};
-ghost use Rattle.rm_channel.specs.Room.{AreThreads, IsThere};
-ghost use Rattle.rm_channel.specs.Runs.{HasRun};
-ghost use Rattle.rm_channel.specs.Sections.{between, sections};
+ghost use Rattle.rm_channel.specs.{Made.{Worked}, Room.{AreThreads, IsThere}, Runs.{HasRun}, Sections.{between, sections}};
 
 use crate::cutting::cut_at;
 use crate::jobs::{CopyJob, Gate, Point, Wanted, WriteJob};

@@ -1,9 +1,7 @@
 //! Lists of writes by several threads.
 ghost use Rattle.std.specs.Prelude.{◌≡◌, ◌+◌, ◌≤◌, Ok, length, IfOk};
 ghost use Rattle.rm_live.specs.Passes.{IsLater};
-ghost use Rattle.rm_channel.specs.Jobs.{lists};
-ghost use Rattle.rm_channel.specs.Room.{AreThreads};
-ghost use Rattle.rm_channel.specs.Runs.{HasWritten};
+ghost use Rattle.rm_channel.specs.{Jobs.{lists}, Room.{AreThreads}, Runs.{HasWritten}};
 
 use crate::copying::run;
 use crate::jobs::{Gate, Point, WriteJob};

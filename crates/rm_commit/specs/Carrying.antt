@@ -1,13 +1,10 @@
 -- What a statement does outside: its objects are put, then its edits are made, then objects go. And what
 -- a stop leaves of that. Of the store and of the keeper it is said of each by itself, where that one tells what it holds.
-use Rattle.std.specs.Prelude.{ℕ, ◌≡◌, List, Option, take, drop}
-use Rattle.std.specs.Option.{option_map}
+use Rattle.std.specs.{Prelude.{ℕ, ◌≡◌, List, Option, take, drop}, Option.{option_map}}
 use Rattle.rm_base.specs.Store.{Held, Both}
-use Rattle.rm_catalog.specs.declared.record.Record.{Record}
-use Rattle.rm_catalog.specs.Edits.{after_edits}
-use Rattle.rm_commit.specs.declared.commit.Commit.{Commit}
+use Rattle.rm_catalog.specs.{Edits.{after_edits}, declared.record.Record.{Record}}
+use Rattle.rm_commit.specs.{Names.{HasPuts, SameBeyondPuts, HasRemoves, SameBeyondRemoves}, declared.commit.Commit.{Commit}}
 use Rattle.rm_commit.specs.declared.commit.Object.{Object}
-use Rattle.rm_commit.specs.Names.{HasPuts, SameBeyondPuts, HasRemoves, SameBeyondRemoves}
 
 -- the objects were put, and those that were to go are gone
 pub record AreMoved (c : Commit) (before after : Held) : Type 0 where

@@ -1,10 +1,7 @@
 -- Which stop a failed call makes.
-use Rattle.rm_base.specs.declared.store.StoreFail.{StoreFail}
-use Rattle.rm_base.specs.declared.store.StoreFail.TheVariants.{Failed as StoreFailed, NoMemory as StoreWithout}
-use Rattle.rm_catalog.specs.declared.keeper.KeeperFail.{KeeperFail}
-use Rattle.rm_catalog.specs.declared.keeper.KeeperFail.TheVariants.{Failed as KeeperFailed, NoMemory as KeeperWithout}
-use Rattle.rm_commit.specs.declared.commit.Stop.{Stop}
-use Rattle.rm_commit.specs.declared.commit.Stop.TheVariants.{StoreFault, KeeperFault, NoMemory}
+use Rattle.rm_base.specs.declared.store.StoreFail.{StoreFail, TheVariants.{Failed as StoreFailed, NoMemory as StoreWithout}}
+use Rattle.rm_catalog.specs.declared.keeper.KeeperFail.{KeeperFail, TheVariants.{Failed as KeeperFailed, NoMemory as KeeperWithout}}
+use Rattle.rm_commit.specs.declared.commit.Stop.{Stop, TheVariants.{StoreFault, KeeperFault, NoMemory}}
 
 abbrev pub stop_of_store : StoreFail → Stop
 stop_of_store StoreFailed = StoreFault

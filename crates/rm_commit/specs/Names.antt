@@ -1,6 +1,5 @@
 -- What stands under names, after changes of some of them.
-use Rattle.std.specs.Prelude.{◌≡◌, ℕ, ◌||◌, Bool, false, List, [], ◌∷◌, Option, Some, None, if◌then◌else◌}
-use Rattle.std.specs.Str.{bytes_eq}
+use Rattle.std.specs.{Prelude.{◌≡◌, ℕ, ◌||◌, Bool, false, List, [], ◌∷◌, Option, Some, None, if◌then◌else◌}, Str.{bytes_eq}}
 use Rattle.rm_base.specs.Store.{Held}
 use Rattle.rm_commit.specs.declared.commit.Object.{Object}
 

@@ -1,11 +1,9 @@
 //! What a statement does outside: new objects, then one list of edits, then objects that go.
 ghost use Rattle.std.specs.Prelude.{◌≡◌, ◌≤◌, IsErrOf, OnOk, OnErr};
-ghost use Rattle.rm_base.specs.Outside.{Rose};
-ghost use Rattle.rm_base.specs.Store.{Both};
-ghost use Rattle.rm_base.specs.declared.store.StoreFail.TheVariants.{Failed};
-ghost use Rattle.rm_commit.specs.declared.commit.Stop.TheVariants.{StoreFault, KeeperFault};
+ghost use Rattle.rm_base.specs.{Outside.{Rose}, Store.{Both}, declared.store.StoreFail.TheVariants.{Failed}};
 ghost use Rattle.rm_commit.specs.Names.{HasPuts, SameBeyondPuts, HasRemoves, SameBeyondRemoves};
 ghost use Rattle.rm_commit.specs.Carrying.{Carried, Halted, HaltedBefore, PutsFront};
+ghost use Rattle.rm_commit.specs.declared.commit.Stop.TheVariants.{StoreFault, KeeperFault};
 
 use rm_base::{NoMemory, Seq, Store, StoreFail, Text};
 use rm_catalog::{Edit, Keeper, KeeperFail};

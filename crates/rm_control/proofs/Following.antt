@@ -1,18 +1,10 @@
 -- A far keeper goes on to follow a near one.
+use Rattle.std.specs.{Prelude.{IfSome, IsPermutation}, Option.{option_map}}
 use Rattle.std.proofs.Common.{◌≡◌, ◌==◌, ◌≤◌, ◌<◌, ◌+◌, ◌∙◌, Bool, true, length, ℕ, List, [], ◌∷◌, ◌++◌, Option, Some, None, refl, ap, sym, subst, arith}
-use Rattle.std.specs.Prelude.{IfSome, IsPermutation}
-use Rattle.std.specs.Option.{option_map}
-use Rattle.std.proofs.lemmas.Bool.Decides.{nat_tests}
-use Rattle.std.proofs.lemmas.List.Sorted.{length_permutation}
-use Rattle.rm_catalog.specs.declared.record.Edit.{Edit}
-use Rattle.rm_catalog.specs.declared.record.Record.{Record}
-use Rattle.rm_catalog.specs.Edits.{after_edits}
-use Rattle.rm_catalog.specs.Keys.{Ascends}
-use Rattle.rm_catalog.specs.Rules.{IsOrderOf}
-use Rattle.rm_catalog.proofs.Ascending.{loaded_in_order}
-use Rattle.rm_catalog.proofs.Filters.{after_both}
-use Rattle.rm_control.specs.Control.{IsFollowed}
-use Rattle.rm_control.specs.Follows.{AreEqual, Follows}
+use Rattle.std.proofs.lemmas.{Bool.Decides.{nat_tests}, List.Sorted.{length_permutation}}
+use Rattle.rm_catalog.specs.{Edits.{after_edits}, Keys.{Ascends}, Rules.{IsOrderOf}, declared.record.{Edit.{Edit}, Record.{Record}}}
+use Rattle.rm_catalog.proofs.{Ascending.{loaded_in_order}, Filters.{after_both}}
+use Rattle.rm_control.specs.{Control.{IsFollowed}, Follows.{AreEqual, Follows}}
 
 follows_sent : (near far : Option (List Record)) (waiting : List Edit) → Follows near far waiting → Follows near (option_map (after_edits waiting) far) []
 follows_sent (Some near) (Some far) waiting is = is

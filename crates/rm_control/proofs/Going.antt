@@ -1,15 +1,9 @@
 -- The edits between two lists of records, made from the greatest key on.
-use Rattle.std.proofs.Common.{◌≡◌, ℕ, ◌+◌, ◌-◌, ◌<◌, ◌≤◌, List, [], ◌∷◌, ◌++◌, Option, Some, None, length, get_or, refl, ap, sym, subst, ◌∙◌, arith, ◌⊎◌, inl, inr, All}
 use Rattle.std.specs.Prelude.{IfNone}
-use Rattle.std.proofs.lemmas.Bool.{cases_lt}
-use Rattle.std.proofs.lemmas.List.{append-nil, append_assoc, get_or_default}
-use Rattle.std.proofs.lemmas.List.Elements.{All-append, All-cons}
-use Rattle.rm_catalog.specs.declared.record.Edit.{Edit}
-use Rattle.rm_catalog.specs.declared.record.Edit.TheVariants.{Put, Drop}
-use Rattle.rm_catalog.specs.declared.record.Key.{Key}
-use Rattle.rm_catalog.specs.declared.record.Record.{Record}
-use Rattle.rm_catalog.specs.Edits.{below, above, after_edit, after_edits}
-use Rattle.rm_catalog.specs.Keys.{Ascends, place_of, place_of_key}
+use Rattle.std.proofs.Common.{◌≡◌, ℕ, ◌+◌, ◌-◌, ◌<◌, ◌≤◌, List, [], ◌∷◌, ◌++◌, Option, Some, None, length, get_or, refl, ap, sym, subst, ◌∙◌, arith, ◌⊎◌, inl, inr, All}
+use Rattle.std.proofs.lemmas.{Bool.{cases_lt}, List.{append-nil, append_assoc, get_or_default, Elements.{All-append, All-cons}}}
+use Rattle.rm_catalog.specs.{Edits.{below, above, after_edit, after_edits}, Keys.{Ascends, place_of, place_of_key}}
+use Rattle.rm_catalog.specs.declared.record.{Edit.{Edit, TheVariants.{Put, Drop}}, Key.{Key}, Record.{Record}}
 use Rattle.rm_catalog.proofs.Ascending.{ascends_after_all, ascends_front, front_below, rest_above}
 use Rattle.rm_catalog.proofs.Filters.{after_both, below_all, below_none, below_append, above_all, above_none, above_append}
 use Rattle.rm_control.specs.Steps.{IsStep, IsTaken, IsFree, IsReplaced}

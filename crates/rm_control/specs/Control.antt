@@ -1,8 +1,7 @@
 -- A near keeper, and a far one that follows it.
 use Rattle.std.specs.Prelude.{◌≤◌, ◌⊎◌, ℕ, List, Option}
 use Rattle.rm_base.specs.Outside.{Rose}
-use Rattle.rm_catalog.specs.declared.record.Edit.{Edit}
-use Rattle.rm_catalog.specs.declared.record.Record.{Record}
+use Rattle.rm_catalog.specs.declared.record.{Edit.{Edit}, Record.{Record}}
 use Rattle.rm_control.specs.Follows.{Behind, Follows}
 
 -- both keepers; the edits that wait, in order; in how many lists they came; and how many lists may wait

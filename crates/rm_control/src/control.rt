@@ -1,12 +1,9 @@
 //! A keeper, and a second one that follows it.
-ghost use Rattle.std.specs.Prelude.{◌≡◌, ◌≤◌, ◌+◌, ◌<◌, [], ◌++◌, IfErr, IfOk, IfSome, IsErrOf, OnErr, OnOk, length};
-ghost use Rattle.std.specs.Option.{option_map};
+ghost use Rattle.std.specs.{Prelude.{◌≡◌, ◌≤◌, ◌+◌, ◌<◌, [], ◌++◌, IfErr, IfOk, IfSome, IsErrOf, OnErr, OnOk, length}, Option.{option_map}};
 ghost use Rattle.std.specs.Vec.{vec_capacity, vec_len};
 ghost use Rattle.rm_base.specs.Outside.{Rose};
-ghost use Rattle.rm_catalog.specs.declared.keeper.KeeperFail.TheVariants.{Failed};
-ghost use Rattle.rm_catalog.specs.Edits.{after_edits};
-ghost use Rattle.rm_control.specs.Control.{OneRose};
-ghost use Rattle.rm_control.specs.Follows.{AreEqual};
+ghost use Rattle.rm_catalog.specs.{Edits.{after_edits}, declared.keeper.KeeperFail.TheVariants.{Failed}};
+ghost use Rattle.rm_control.specs.{Control.{OneRose}, Follows.{AreEqual}};
 
 use crate::differences::edits_between;
 use rm_base::{NoMemory, Seq};
@@ -95,8 +92,7 @@ fn send<F: Keeper>(far: &mut F, waiting: &mut Vec<Edit>) -> Result<(), KeeperFai
 }
 
 impl<N: Keeper, F: Keeper> Control<N, F> {
-    ghost use Rattle.rm_control.specs.Control.{IsFollowed, behind};
-    ghost use Rattle.rm_control.specs.Follows.{sent};
+    ghost use Rattle.rm_control.specs.{Control.{IsFollowed, behind}, Follows.{sent}};
 
     /// A control of these keepers, for which at most `keep` lists wait, 1 to 1,000. The far records are made
     /// equal to the near ones first. An error gives both keepers back, with the records that they had.
@@ -170,10 +166,8 @@ impl<N: Keeper, F: Keeper> Control<N, F> {
 
 impl<N: Keeper, F: Keeper> Keeper for Control<N, F> {
     ghost use Rattle.std.specs.Prelude.{IfSome, ◌⊎◌};
-    ghost use Rattle.rm_catalog.specs.Faults.{Answers};
-    ghost use Rattle.rm_catalog.specs.Keys.{Ascends};
-    ghost use Rattle.rm_control.specs.Control.{behind};
-    ghost use Rattle.rm_control.specs.Follows.{added, with_room};
+    ghost use Rattle.rm_catalog.specs.{Faults.{Answers}, Keys.{Ascends}};
+    ghost use Rattle.rm_control.specs.{Control.{behind}, Follows.{added, with_room}};
 
     ghost kept = { λ c. N.kept c.near };
 

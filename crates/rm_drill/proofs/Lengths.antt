@@ -1,9 +1,7 @@
 -- How long the parts of a script are at most.
+use Rattle.std.specs.{Prelude.{if◌then◌else◌}, Fmt.{decimal}}
 use Rattle.std.proofs.Common.{◌≤◌, ◌<◌, ◌+◌, ◌*◌, ◌%◌, ◌++◌, ◌==◌, [], ℕ, zero, suc, Bool, true, false, List, codes, length, arith}
-use Rattle.std.specs.Prelude.{if◌then◌else◌}
-use Rattle.std.specs.Fmt.{decimal}
-use Rattle.std.proofs.lemmas.Fmt.{length-decimal-le}
-use Rattle.std.proofs.lemmas.List.{length-append}
+use Rattle.std.proofs.lemmas.{Fmt.{length-decimal-le}, List.{length-append}}
 use Rattle.rm_drill.specs.Script.{closing_text, draw_of, line_of, next_number, number_after_rounds, number_after_writes, opening_text, round_end, round_text, rounds_text, script_text, statement_of, write_text, writes_text}
 
 -- two texts, one after the other

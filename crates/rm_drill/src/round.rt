@@ -1,6 +1,5 @@
 //! One round of the drill: a backup during writes.
-ghost use Rattle.std.specs.Prelude.{◌≡◌, ◌++◌, IfOk, OnOk};
-ghost use Rattle.std.specs.String.{string_bytes};
+ghost use Rattle.std.specs.{Prelude.{◌≡◌, ◌++◌, IfOk, OnOk}, String.{string_bytes}};
 ghost use Rattle.rm_drill.specs.Script.{next_number, number_after_writes, round_end, round_text, statement_of, write_text, writes_text};
 
 use crate::draw::{draw_at, next_of};

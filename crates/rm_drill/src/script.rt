@@ -1,6 +1,5 @@
 //! The whole script.
-ghost use Rattle.std.specs.Prelude.{◌≡◌, ◌++◌, IfOk, OnOk};
-ghost use Rattle.std.specs.String.{string_bytes};
+ghost use Rattle.std.specs.{Prelude.{◌≡◌, ◌++◌, IfOk, OnOk}, String.{string_bytes}};
 ghost use Rattle.rm_drill.specs.Script.{closing_text, opening_text, rounds_text, script_text};
 
 use crate::round::push_round;

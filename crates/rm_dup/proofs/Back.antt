@@ -1,33 +1,19 @@
 -- Each block of a duplicate is determined by its copy, and is what the source's history made of it.
+use Rattle.std.specs.{List.{enumerate_from}, Option.{option_map, option_map_or}}
 use Rattle.std.proofs.Common.{◌≡◌, ◌↔◌, ◌<◌, ◌≤◌, ◌+◌, ◌-◌, ◌∙◌, ◌⊎◌, inl, inr, ℕ, List, [], Option, Some, None, length, map, slice_get, Contains, refl, sym, ap, subst, arith}
-use Rattle.std.specs.List.{enumerate_from}
-use Rattle.std.specs.Option.{option_map, option_map_or}
 use Rattle.std.proofs.lemmas.List.Elements.{All-contains}
 use Rattle.std.proofs.lemmas.Option.{get_or_from_slice_get, none-some, same_Some, slice_get-get_or, slice_get-map, slice_get_within}
+use Rattle.rm_base.specs.{Content.{zero_block}, declared.block.{Block.{Block}, Change.{Change}, Row.{Row}}}
 use Rattle.rm_base.proofs.Lists.{map_from, map_to}
-use Rattle.rm_base.specs.Content.{zero_block}
-use Rattle.rm_base.specs.declared.block.Block.{Block}
-use Rattle.rm_base.specs.declared.block.Change.{Change}
-use Rattle.rm_base.specs.declared.block.Row.{Row}
 use Rattle.rm_blocks.specs.File.{File}
-use Rattle.rm_history.specs.declared.world.Datafile.{Datafile}
-use Rattle.rm_history.specs.declared.world.World.{World}
-use Rattle.rm_history.specs.Artefacts.{Base, Level1, Log}
-use Rattle.rm_history.specs.Evidence.{Agrees, Evidence}
-use Rattle.rm_history.specs.FirstGap.{IsRecoverable, IsTarget}
-use Rattle.rm_history.specs.History.{IsHistory}
-use Rattle.rm_history.specs.Known.{HasRow, in_base, in_level1, Seen, by_row, by_log, by_creation, Quiet, Determined}
-use Rattle.rm_history.specs.State.{state, states}
-use Rattle.rm_history.specs.Tree.{owner}
-use Rattle.rm_history.specs.World.{blocks_of, creation_of, file_of}
-use Rattle.rm_history.proofs.States.{concerns-parts, state-held}
+use Rattle.rm_history.specs.{Artefacts.{Base, Level1, Log}, Evidence.{Agrees, Evidence}, FirstGap.{IsRecoverable, IsTarget}}
+use Rattle.rm_history.specs.{History.{IsHistory}, Known.{HasRow, in_base, in_level1, Seen, by_row, by_log, by_creation, Quiet, Determined}}
+use Rattle.rm_history.specs.{State.{state, states}, Tree.{owner}, World.{blocks_of, creation_of, file_of}}
+use Rattle.rm_history.{specs.declared.world.{Datafile.{Datafile}, World.{World}}, proofs.States.{concerns-parts, state-held}}
 use Rattle.rm_history.proofs.Worlds.{file-there}
-use Rattle.rm_plan.specs.Plan.{IsFileTarget}
-use Rattle.rm_plan.proofs.Conditions.{exists_from}
-use Rattle.rm_apply.specs.Told.{AreFilesAt, IsTold}
-use Rattle.rm_apply.proofs.States.{row-is, rows-are}
-use Rattle.rm_dup.specs.Copies.{as_first, duplicated, made_as}
-use Rattle.rm_dup.proofs.Numbered.{numbered-at, numbered-of}
+use Rattle.rm_plan.{specs.Plan.{IsFileTarget}, proofs.Conditions.{exists_from}}
+use Rattle.rm_apply.{specs.Told.{AreFilesAt, IsTold}, proofs.States.{row-is, rows-are}}
+use Rattle.rm_dup.{specs.Copies.{as_first, duplicated, made_as}, proofs.Numbered.{numbered-at, numbered-of}}
 
 -- the copy of a datafile of this number, as evidence
 abbrev pub base_as : ℕ → ℕ × File → Base

@@ -1,13 +1,10 @@
 -- The blocks of some of the datafiles are no more than those of all.
-use Rattle.std.proofs.Common.{◌≡◌, ◌<◌, ◌≤◌, ◌+◌, ◌-◌, ◌∙◌, ℕ, zero, suc, List, [], ◌∷◌, Some, map, drop, get_or, slice_get, Contains, AllPairs, ap, arith}
 use Rattle.std.specs.Prelude.{sum_by}
-use Rattle.std.proofs.lemmas.List.{get_or-map, length-map}
-use Rattle.std.proofs.lemmas.List.Sums.{sum_by-cons}
+use Rattle.std.proofs.Common.{◌≡◌, ◌<◌, ◌≤◌, ◌+◌, ◌-◌, ◌∙◌, ℕ, zero, suc, List, [], ◌∷◌, Some, map, drop, get_or, slice_get, Contains, AllPairs, ap, arith}
+use Rattle.std.proofs.lemmas.List.{get_or-map, length-map, Sums.{sum_by-cons}}
 use Rattle.rm_base.proofs.Members.{behind, in-front}
 use Rattle.rm_blocks.specs.File.{File}
-use Rattle.rm_history.specs.World.{blocks_of}
-use Rattle.rm_history.specs.declared.world.Datafile.{Datafile}
-use Rattle.rm_history.specs.declared.world.World.{World}
+use Rattle.rm_history.specs.{World.{blocks_of}, declared.world.{Datafile.{Datafile}, World.{World}}}
 use Rattle.rm_dup.specs.Copies.{as_first}
 
 -- the blocks of those behind the first k

@@ -1,38 +1,22 @@
 -- Where the copies stand under their names, and nothing but some of them is in place, what is at hand of a duplicate is
 -- the copies, and nothing else.
-use Rattle.std.proofs.Common.{◌≡◌, ◌∙◌, inl, inr, ℕ, List, [], ◌∷◌, map, Contains, All, refl, sym, ap, subst}
-use Rattle.std.specs.List.{enumerate_from}
-use Rattle.std.proofs.lemmas.List.Elements.{All-contains, Contains-append_cases, Contains-append_right}
-use Rattle.std.proofs.lemmas.Option.{same_Some}
+use Rattle.std.{specs.List.{enumerate_from}, proofs.Common.{◌≡◌, ◌∙◌, inl, inr, ℕ, List, [], ◌∷◌, map, Contains, All, refl, sym, ap, subst}}
+use Rattle.std.proofs.lemmas.{List.Elements.{All-contains, Contains-append_cases, Contains-append_right}, Option.{same_Some}}
 use Rattle.rm_apply.specs.Restore.{backed_up}
-use Rattle.rm_base.proofs.Lists.{map_from, map_to}
+use Rattle.rm_base.{specs.{Store.{Held}, declared.kinds.Kind.{Kind, TheVariants.{Level0, Level1}}}, proofs.Lists.{map_from, map_to}}
 use Rattle.rm_base.proofs.Members.{in-front, none-in}
-use Rattle.rm_base.specs.Store.{Held}
-use Rattle.rm_base.specs.declared.kinds.Kind.{Kind}
-use Rattle.rm_base.specs.declared.kinds.Kind.TheVariants.{Level0, Level1}
 use Rattle.rm_blocks.specs.File.{File}
-use Rattle.rm_catalog.specs.declared.record.PieceEntry.{PieceEntry}
-use Rattle.rm_catalog.specs.declared.record.Record.{Record}
-use Rattle.rm_catalog_typed.specs.Facts.{IsTypedCatalog}
-use Rattle.rm_catalog_typed.specs.TypedCatalog.{TypedCatalog, records_of}
-use Rattle.rm_catalog_typed.proofs.Members.{log-in, piece-has, piece-in, set-in}
-use Rattle.rm_catalog_typed.proofs.Records.{world-told}
-use Rattle.rm_evidence.specs.Available.{HasPieceObject}
-use Rattle.rm_evidence.specs.Database.{database_in, dbid_in, world_of}
-use Rattle.rm_evidence.specs.Gathered.{IsBaseOf, IsGathered, IsLevel1Of, IsLogOf, IsPieceAmong, placed, placed_piece}
-use Rattle.rm_evidence.specs.Known.{known_of}
+use Rattle.rm_catalog.specs.declared.record.{PieceEntry.{PieceEntry}, Record.{Record}}
+use Rattle.rm_catalog_typed.specs.{Facts.{IsTypedCatalog}, TypedCatalog.{TypedCatalog, records_of}}
+use Rattle.rm_catalog_typed.proofs.{Members.{log-in, piece-has, piece-in, set-in}, Records.{world-told}}
+use Rattle.rm_evidence.specs.{Available.{HasPieceObject}, Database.{database_in, dbid_in, world_of}}
+use Rattle.rm_evidence.specs.{Gathered.{IsBaseOf, IsGathered, IsLevel1Of, IsLogOf, IsPieceAmong, placed, placed_piece}, Known.{known_of}}
 use Rattle.rm_evidence.specs.declared.evidence.Evidence.{Evidence}
-use Rattle.rm_history.specs.Artefacts as artefact
-use Rattle.rm_history.specs.declared.world.World.{World}
-use Rattle.rm_piece.specs.declared.piece.Piece.{Piece}
-use Rattle.rm_piece.specs.Artefacts.{base_of, level1_of}
-use Rattle.rm_piece.specs.Spelling.{spelling}
-use Rattle.rm_piece.specs.Valid.{IsPiece}
+use Rattle.rm_history.specs.{Artefacts as artefact, declared.world.World.{World}}
+use Rattle.rm_piece.specs.{Artefacts.{base_of, level1_of}, Spelling.{spelling}, Valid.{IsPiece}, declared.piece.Piece.{Piece}}
 use Rattle.rm_piece.proofs.Fitting.{spelling_same}
-use Rattle.rm_redo.specs.declared.log_file.LogFile.{LogFile}
-use Rattle.rm_redo.specs.LogFile.{log_of}
-use Rattle.rm_dup.specs.Copies.{copies_of, copy_as, duplicated}
-use Rattle.rm_dup.specs.Entries.{HoldsCopies, catalog_of, entry_of, standing}
+use Rattle.rm_redo.specs.{LogFile.{log_of}, declared.log_file.LogFile.{LogFile}}
+use Rattle.rm_dup.specs.{Copies.{copies_of, copy_as, duplicated}, Entries.{HoldsCopies, catalog_of, entry_of, standing}}
 use Rattle.rm_dup.proofs.Back.{AreCopies, base_as}
 
 none-of : {X : Type 0} (xs : List X) → ((x : X) → ¬ Contains xs x) → xs ≡ []

@@ -1,27 +1,16 @@
 -- What a recovery of a duplicate brings back is exactly what the source's history made.
+use Rattle.std.specs.{Prelude.{◌&&◌, nat_lt}, List.{enumerate_from}, Option.{option_map}}
 use Rattle.std.proofs.Common.{◌≡◌, ◌==◌, ◌<◌, ◌+◌, ◌-◌, ◌∙◌, ℕ, true, List, [], ◌∷◌, Some, map, slice_get, Contains, sym, ap, subst, arith}
-use Rattle.std.specs.Prelude.{◌&&◌, nat_lt}
-use Rattle.std.specs.List.{enumerate_from}
-use Rattle.std.specs.Option.{option_map}
-use Rattle.std.proofs.lemmas.Bool.Decides.{nat_tests}
-use Rattle.std.proofs.lemmas.Option.{same_Some, slice_get-map}
-use Rattle.rm_base.proofs.Lists.{map_from, map_to}
-use Rattle.rm_base.specs.declared.block.Change.{Change}
+use Rattle.std.proofs.lemmas.{Bool.Decides.{nat_tests}, Option.{same_Some, slice_get-map}}
+use Rattle.rm_base.{specs.declared.block.Change.{Change}, proofs.Lists.{map_from, map_to}}
 use Rattle.rm_blocks.specs.File.{File}
-use Rattle.rm_evidence.proofs.Extending.{pairs-mapped, unmapped-pairs}
-use Rattle.rm_evidence.proofs.Parts.{file-at}
-use Rattle.rm_history.specs.Evidence.{Agrees, Evidence}
-use Rattle.rm_history.specs.History.{IsHistory}
-use Rattle.rm_history.specs.Tree.{owner}
-use Rattle.rm_history.specs.World.{creation_of}
-use Rattle.rm_history.specs.declared.world.World.{World}
-use Rattle.rm_history.proofs.Owners.{owner-first}
+use Rattle.rm_evidence.proofs.{Extending.{pairs-mapped, unmapped-pairs}, Parts.{file-at}}
+use Rattle.rm_history.specs.{Evidence.{Agrees, Evidence}, History.{IsHistory}, Tree.{owner}, World.{creation_of}}
+use Rattle.rm_history.{specs.declared.world.World.{World}, proofs.Owners.{owner-first}}
 use Rattle.rm_plan.specs.Plan.{IsFileTarget}
-use Rattle.rm_apply.specs.Told.{AreFilesAt}
-use Rattle.rm_apply.proofs.Unique.{same_members}
+use Rattle.rm_apply.{specs.Told.{AreFilesAt}, proofs.Unique.{same_members}}
 use Rattle.rm_dup.specs.Copies.{as_first, duplicated, first_until, made_as, made_of}
-use Rattle.rm_dup.proofs.Back.{AreCopies, all-solid, mapped, true-to-source}
-use Rattle.rm_dup.proofs.Numbered.{numbered-at, numbered-of, numbers-ascend}
+use Rattle.rm_dup.proofs.{Back.{AreCopies, all-solid, mapped, true-to-source}, Numbered.{numbered-at, numbered-of, numbers-ascend}}
 
 exists-at : (creation s owned inc : ℕ) → creation < s → owned ≡ inc → (nat_lt creation s && (owned == inc)) ≡ true
 exists-at creation s owned inc below is = grind (arith, nat_tests)

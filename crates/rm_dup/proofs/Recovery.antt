@@ -1,42 +1,20 @@
 -- A recovery of a duplicate brings back what the source was.
 use Rattle.std.proofs.Common.{◌≡◌, ◌<◌, ◌≤◌, ◌^◌, ◌∙◌, ℕ, List, [], ◌∷◌, Option, Some, None, map, Contains, sym, ap, subst, arith}
-use Rattle.rm_apply.specs.Files.{AreExactly}
-use Rattle.rm_apply.specs.Recover.{FindsGap, TellsAll, outside}
-use Rattle.rm_apply.specs.Restore.{backed_up}
-use Rattle.rm_apply.specs.Told.{AreFilesAt, IsGapOfAll}
+use Rattle.rm_apply.specs.{Files.{AreExactly}, Recover.{FindsGap, TellsAll, outside}, Restore.{backed_up}, Told.{AreFilesAt, IsGapOfAll}}
 use Rattle.rm_apply.specs.declared.recovering.Recovered.{Recovered}
-use Rattle.rm_base.proofs.Members.{none-in}
-use Rattle.rm_base.specs.Store.{Held}
-use Rattle.rm_base.specs.declared.block.Change.{Change}
+use Rattle.rm_base.{specs.{Store.{Held}, declared.block.Change.{Change}}, proofs.Members.{none-in}}
 use Rattle.rm_blocks.specs.File.{File}
-use Rattle.rm_catalog.specs.Rules.{HasDatabase, IsCatalog}
-use Rattle.rm_catalog.specs.Trees.{nodes}
-use Rattle.rm_catalog.specs.declared.record.Record.{Record}
-use Rattle.rm_catalog_typed.specs.TypedCatalog.{records_of}
-use Rattle.rm_catalog_typed.proofs.Records.{tree-told}
-use Rattle.rm_evidence.specs.Database.{world_of}
-use Rattle.rm_evidence.specs.Gathered.{IsGathered}
-use Rattle.rm_evidence.specs.Known.{known_of}
-use Rattle.rm_evidence.specs.declared.evidence.Evidence.{Evidence}
+use Rattle.rm_catalog.specs.{Rules.{HasDatabase, IsCatalog}, Trees.{nodes}, declared.record.Record.{Record}}
+use Rattle.rm_catalog_typed.{specs.TypedCatalog.{records_of}, proofs.Records.{tree-told}}
+use Rattle.rm_evidence.specs.{Database.{world_of}, Gathered.{IsGathered}, Known.{known_of}, declared.evidence.Evidence.{Evidence}}
 use Rattle.rm_evidence.specs.declared.evidence.InPlace.{InPlace}
-use Rattle.rm_history.specs.Evidence.{Agrees}
-use Rattle.rm_history.specs.History.{IsHistory}
-use Rattle.rm_history.specs.Tree.{IsThere}
-use Rattle.rm_history.specs.declared.tree.Incarnation.{Incarnation}
-use Rattle.rm_history.specs.declared.world.World.{World}
-use Rattle.rm_history.proofs.Facts.{no-gap}
+use Rattle.rm_history.specs.{Evidence.{Agrees}, History.{IsHistory}, Tree.{IsThere}, declared.tree.Incarnation.{Incarnation}}
+use Rattle.rm_history.{specs.declared.world.World.{World}, proofs.Facts.{no-gap}}
 use Rattle.rm_piece.specs.declared.piece.Piece.{Piece}
-use Rattle.rm_plan.specs.Plan.{IsFileTarget}
-use Rattle.rm_plan.specs.declared.plan.Gap.{Gap}
-use Rattle.rm_dup.specs.Copies.{duplicated, first_until, made_of}
-use Rattle.rm_dup.specs.Duplicate.{IsDuplicate}
-use Rattle.rm_dup.specs.Entries.{HoldsCopies, catalog_of, moment_in, nothing, restored, standing}
-use Rattle.rm_dup.specs.declared.database.Duplicate.{Duplicate}
-use Rattle.rm_dup.proofs.Back.{AreCopies, all-back}
-use Rattle.rm_dup.proofs.Gathered.{at-hand, duplicate-told}
-use Rattle.rm_dup.proofs.Made.{back-is}
-use Rattle.rm_dup.proofs.Source.{none-told}
-use Rattle.rm_dup.proofs.Valid.{range}
+use Rattle.rm_plan.specs.{Plan.{IsFileTarget}, declared.plan.Gap.{Gap}}
+use Rattle.rm_dup.specs.{Copies.{duplicated, first_until, made_of}, Duplicate.{IsDuplicate}}
+use Rattle.rm_dup.specs.{Entries.{HoldsCopies, catalog_of, moment_in, nothing, restored, standing}, declared.database.Duplicate.{Duplicate}}
+use Rattle.rm_dup.proofs.{Back.{AreCopies, all-back}, Gathered.{at-hand, duplicate-told}, Made.{back-is}, Source.{none-told}, Valid.{range}}
 use Rattle.rm_dup.proofs.Whole.{catalog-is, pieces-valid}
 
 -- of one incarnation, which begins at or below its end, the end is in range

@@ -1,16 +1,10 @@
 -- What is true of the source and of the target.
+use Rattle.std.specs.{Prelude.{nat_lt, ◌||◌}, Option.{option_map_or}}
 use Rattle.std.proofs.Common.{◌≡◌, ◌≤◌, ◌∙◌, inl, inr, ℕ, Bool, cond, List, Option, Some, None, refl, sym, ap}
-use Rattle.std.specs.Prelude.{nat_lt, ◌||◌}
-use Rattle.std.specs.Option.{option_map_or}
-use Rattle.std.proofs.lemmas.Bool.{cases_lt, lt-ltb, le-ltb}
-use Rattle.std.proofs.lemmas.Option.{none-some}
+use Rattle.std.proofs.lemmas.{Bool.{cases_lt, lt-ltb, le-ltb}, Option.{none-some}}
 use Rattle.rm_base.specs.Numbers.{last_moment}
-use Rattle.rm_catalog.specs.declared.record.BaseEntry.{BaseEntry}
-use Rattle.rm_catalog.specs.declared.record.Record.{Record}
-use Rattle.rm_catalog.specs.Facts.{BaseRule}
-use Rattle.rm_catalog.specs.Keys.{base}
-use Rattle.rm_catalog.specs.Rules.{HasDatabase, IsCatalog}
-use Rattle.rm_catalog.specs.Switches.{began_with}
+use Rattle.rm_catalog.specs.{Facts.{BaseRule}, Keys.{base}, Rules.{HasDatabase, IsCatalog}, Switches.{began_with}}
+use Rattle.rm_catalog.specs.declared.record.{BaseEntry.{BaseEntry}, Record.{Record}}
 use Rattle.rm_catalog_typed.proofs.Told.{base-rule}
 use Rattle.rm_evidence.proofs.Current.{has_base}
 use Rattle.rm_dup.specs.Entries.{moment_in}

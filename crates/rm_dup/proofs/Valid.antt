@@ -1,58 +1,28 @@
 -- The copies of a duplicate are valid pieces, and its records are a typed catalog's.
+use Rattle.std.specs.{Prelude.{sum_by}, List.{enumerate_from}, Option.{option_map, option_map_or}}
 use Rattle.std.proofs.Common.{◌≡◌, ◌<◌, ◌≤◌, ◌+◌, ◌-◌, ◌^◌, ◌∙◌, ℕ, List, [], ◌∷◌, None, Some, length, map, get_or, slice_get, Contains, All, AllPairs, refl, ap, arith}
-use Rattle.std.specs.Prelude.{sum_by}
-use Rattle.std.specs.List.{enumerate_from}
-use Rattle.std.specs.Option.{option_map, option_map_or}
-use Rattle.std.proofs.lemmas.List.{length-map}
-use Rattle.std.proofs.lemmas.List.Elements.{All-contains, All-map, All-nil, Contains-get_or}
-use Rattle.std.proofs.lemmas.List.FromFn.{length-enumerate_from}
+use Rattle.std.proofs.lemmas.List.{length-map, Elements.{All-contains, All-map, All-nil, Contains-get_or}, FromFn.{length-enumerate_from}}
 use Rattle.std.proofs.lemmas.Option.{slice_get-get_or, slice_get-map, slice_get_within}
-use Rattle.rm_base.proofs.Lists.{map_to}
-use Rattle.rm_base.proofs.Members.{none-in}
-use Rattle.rm_base.proofs.Sealing.{length-sealed}
-use Rattle.rm_base.proofs.Slots.{all-get}
-use Rattle.rm_base.specs.Numbers.{last_scn}
-use Rattle.rm_base.specs.declared.block.Row.{Row}
+use Rattle.rm_base.{specs.{Numbers.{last_scn}, declared.block.Row.{Row}}, proofs.{Lists.{map_to}, Members.{none-in}}}
+use Rattle.rm_base.proofs.{Sealing.{length-sealed}, Slots.{all-get}}
 use Rattle.rm_blocks.specs.File.{File}
-use Rattle.rm_catalog.specs.declared.record.LogEntry.{LogEntry}
-use Rattle.rm_catalog.specs.declared.record.PieceEntry.{PieceEntry}
-use Rattle.rm_catalog.specs.declared.record.Record.{Record}
-use Rattle.rm_catalog.specs.declared.record.SetEntry.{SetEntry}
-use Rattle.rm_catalog.specs.Rules.{HasDatabase, IsCatalog}
-use Rattle.rm_catalog.specs.Trees.{nodes}
-use Rattle.rm_catalog_typed.specs.Facts.{IsTypedCatalog}
-use Rattle.rm_catalog_typed.specs.Ledger.{Ledger, ledger_records}
+use Rattle.rm_catalog.specs.{Rules.{HasDatabase, IsCatalog}, Trees.{nodes}, declared.record.{LogEntry.{LogEntry}, PieceEntry.{PieceEntry}}}
+use Rattle.rm_catalog.specs.declared.record.{Record.{Record}, SetEntry.{SetEntry}}
+use Rattle.rm_catalog_typed.specs.{Facts.{IsTypedCatalog}, Ledger.{Ledger, ledger_records}}
 use Rattle.rm_catalog_typed.specs.LedgerFacts.{AreIds, AreIncarnations, IsCreated, IsLedger, IsLogEntry, IsPieceEntry, IsSetEntry}
-use Rattle.rm_catalog_typed.proofs.Fitted.{many}
-use Rattle.rm_catalog_typed.proofs.Fresh.{one_incarnation, one_mark}
-use Rattle.rm_catalog_typed.proofs.Ledgers.{datafiles-fit, incarnations}
+use Rattle.rm_catalog_typed.proofs.{Fitted.{many}, Fresh.{one_incarnation, one_mark}, Ledgers.{datafiles-fit, incarnations}}
 use Rattle.rm_catalog_typed.proofs.Trees.{first-begins}
-use Rattle.rm_evidence.specs.Database.{datafiles, world_of}
-use Rattle.rm_evidence.specs.Known.{FitsTree, known_of}
-use Rattle.rm_evidence.specs.declared.evidence.Evidence.{Evidence}
-use Rattle.rm_evidence.proofs.Contents.{seen-content}
-use Rattle.rm_evidence.proofs.Extending.{pairs-mapped}
-use Rattle.rm_history.specs.Tree.{IsThere, end_of, owner, reset_of}
-use Rattle.rm_history.specs.World.{blocks_of, creation_of}
-use Rattle.rm_history.specs.declared.tree.Incarnation.{Incarnation}
-use Rattle.rm_history.specs.declared.world.Datafile.{Datafile}
-use Rattle.rm_history.proofs.Highs.{high-bound, high-least}
-use Rattle.rm_history.proofs.Owners.{owner-first}
-use Rattle.rm_history.proofs.Worlds.{file-there}
-use Rattle.rm_piece.specs.declared.piece.Piece.{Piece}
-use Rattle.rm_piece.specs.Spelling.{body_of}
-use Rattle.rm_piece.specs.Valid.{IsPiece}
-use Rattle.rm_piece.proofs.Bodies.{length-body}
+use Rattle.rm_evidence.specs.{Database.{datafiles, world_of}, Known.{FitsTree, known_of}, declared.evidence.Evidence.{Evidence}}
+use Rattle.rm_evidence.proofs.{Contents.{seen-content}, Extending.{pairs-mapped}}
+use Rattle.rm_history.specs.{Tree.{IsThere, end_of, owner, reset_of}, World.{blocks_of, creation_of}}
+use Rattle.rm_history.{specs.declared.{tree.Incarnation.{Incarnation}, world.Datafile.{Datafile}}, proofs.Highs.{high-bound, high-least}}
+use Rattle.rm_history.proofs.{Owners.{owner-first}, Worlds.{file-there}}
+use Rattle.rm_piece.{specs.{Spelling.{body_of}, Valid.{IsPiece}, declared.piece.Piece.{Piece}}, proofs.Bodies.{length-body}}
 use Rattle.rm_piece.proofs.Fitting.{fits as piece-fits}
 use Rattle.rm_plan.specs.Plan.{IsFileTarget}
-use Rattle.rm_apply.specs.Recover.{outside}
-use Rattle.rm_apply.specs.Told.{AreFilesAt, IsTold}
-use Rattle.rm_apply.proofs.Numbers.{few-targets}
-use Rattle.rm_dup.specs.Copies.{as_first, copies_of, copy_as, first_until}
-use Rattle.rm_dup.specs.Entries.{catalog_of, entry_of, ledger_of, moment_in}
-use Rattle.rm_dup.proofs.Back.{IsSolid, member, solid}
-use Rattle.rm_dup.proofs.Blocks.{few-blocks}
-use Rattle.rm_dup.proofs.Numbered.{all-numbered, numbers-ascend}
+use Rattle.rm_apply.{specs.{Recover.{outside}, Told.{AreFilesAt, IsTold}}, proofs.Numbers.{few-targets}}
+use Rattle.rm_dup.specs.{Copies.{as_first, copies_of, copy_as, first_until}, Entries.{catalog_of, entry_of, ledger_of, moment_in}}
+use Rattle.rm_dup.proofs.{Back.{IsSolid, member, solid}, Blocks.{few-blocks}, Numbered.{all-numbered, numbers-ascend}}
 use Rattle.rm_dup.proofs.Source.{facts, within}
 
 -- what is true of the copy of each datafile is true of all copies

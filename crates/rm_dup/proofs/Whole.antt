@@ -1,22 +1,14 @@
 -- What a recovery that tells all leads to: a duplicate that is valid.
 use Rattle.std.proofs.Common.{◌≡◌, ◌<◌, ◌≤◌, ◌^◌, ℕ, List, Option, None, length, All}
-use Rattle.rm_apply.specs.Recover.{TellsAll, outside}
-use Rattle.rm_apply.specs.declared.recovering.Recovered.{Recovered}
+use Rattle.rm_apply.specs.{Recover.{TellsAll, outside}, declared.recovering.Recovered.{Recovered}}
 use Rattle.rm_base.specs.Store.{Held}
 use Rattle.rm_blocks.specs.File.{File}
-use Rattle.rm_catalog.specs.Rules.{HasDatabase, IsCatalog}
-use Rattle.rm_catalog.specs.Trees.{nodes}
-use Rattle.rm_catalog.specs.declared.record.Record.{Record}
-use Rattle.rm_catalog_typed.specs.Facts.{IsTypedCatalog}
-use Rattle.rm_catalog_typed.specs.TypedCatalog.{records_of}
-use Rattle.rm_catalog_typed.proofs.Valid.{typed_catalog-valid}
-use Rattle.rm_evidence.specs.Database.{world_of}
-use Rattle.rm_evidence.specs.declared.evidence.InPlace.{InPlace}
+use Rattle.rm_catalog.specs.{Rules.{HasDatabase, IsCatalog}, Trees.{nodes}, declared.record.Record.{Record}}
+use Rattle.rm_catalog_typed.{specs.{Facts.{IsTypedCatalog}, TypedCatalog.{records_of}}, proofs.Valid.{typed_catalog-valid}}
+use Rattle.rm_evidence.specs.{Database.{world_of}, declared.evidence.InPlace.{InPlace}}
 use Rattle.rm_history.specs.Tree.{IsThere}
 use Rattle.rm_piece.specs.Valid.{IsPiece}
-use Rattle.rm_dup.specs.Copies.{copies_of}
-use Rattle.rm_dup.specs.Entries.{catalog_of, moment_in}
-use Rattle.rm_dup.proofs.Valid.{catalog-valid, copies-valid, rows-few}
+use Rattle.rm_dup.{specs.{Copies.{copies_of}, Entries.{catalog_of, moment_in}}, proofs.Valid.{catalog-valid, copies-valid, rows-few}}
 
 module _ (rs : List Record) (catalog : IsCatalog rs) (database : HasDatabase rs) (held : Option Held) (place : InPlace) (i s dbid : ℕ) (there : IsThere (nodes rs) i) (inside : outside (nodes rs) i s ≡ None)
     (some : (1 ≤ dbid) × (dbid < 2 ^ 32)) (r : Recovered) (tells : TellsAll held rs place i s r) where

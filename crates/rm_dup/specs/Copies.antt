@@ -1,15 +1,9 @@
 -- The database of a duplicate, its copies, and what a recovery of it brings back.
-use Rattle.std.specs.Prelude.{ℕ, List, [], ◌∷◌, length, map}
-use Rattle.std.specs.List.{enumerate_from}
-use Rattle.rm_base.specs.declared.block.Change.{Change}
-use Rattle.rm_base.specs.declared.kinds.Kind.TheVariants.{Level0}
+use Rattle.std.specs.{Prelude.{ℕ, List, [], ◌∷◌, length, map}, List.{enumerate_from}}
+use Rattle.rm_base.specs.declared.{block.Change.{Change}, kinds.Kind.TheVariants.{Level0}}
 use Rattle.rm_blocks.specs.File.{File}
-use Rattle.rm_history.specs.State.{states}
-use Rattle.rm_history.specs.Tree.{reset_of}
-use Rattle.rm_history.specs.World.{blocks_of, creation_of}
-use Rattle.rm_history.specs.declared.tree.Incarnation.{Incarnation}
-use Rattle.rm_history.specs.declared.world.Datafile.{Datafile}
-use Rattle.rm_history.specs.declared.world.World.{World}
+use Rattle.rm_history.specs.{State.{states}, Tree.{reset_of}, World.{blocks_of, creation_of}, declared.tree.Incarnation.{Incarnation}}
+use Rattle.rm_history.specs.declared.world.{Datafile.{Datafile}, World.{World}}
 use Rattle.rm_piece.specs.declared.piece.Piece.{Piece}
 
 -- incarnation 1 begins where the source's began, and ends at the target

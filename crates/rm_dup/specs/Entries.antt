@@ -1,21 +1,13 @@
 -- The records of a duplicate.
-use Rattle.std.specs.Prelude.{◌≡◌, ◌+◌, ℕ, true, false, codes, List, [], ◌∷◌, None, Some, Contains, length, map}
-use Rattle.std.specs.Option.{option_map_or}
+use Rattle.std.specs.{Prelude.{◌≡◌, ◌+◌, ℕ, true, false, codes, List, [], ◌∷◌, None, Some, Contains, length, map}, Option.{option_map_or}}
 use Rattle.rm_apply.specs.Restore.{backed_up}
-use Rattle.rm_base.specs.Store.{Held}
-use Rattle.rm_base.specs.declared.kinds.Policy.TheVariants.{Redundancy}
+use Rattle.rm_base.specs.{Store.{Held}, declared.kinds.Policy.TheVariants.{Redundancy}}
 use Rattle.rm_blocks.specs.File.{File}
-use Rattle.rm_catalog.specs.Keys.{base}
-use Rattle.rm_catalog.specs.declared.record.PieceEntry.{PieceEntry}
-use Rattle.rm_catalog.specs.declared.record.Record.{Record}
-use Rattle.rm_catalog_typed.specs.Ledger.{Ledger}
-use Rattle.rm_catalog_typed.specs.TypedCatalog.{TypedCatalog}
-use Rattle.rm_evidence.specs.Names.{piece_name}
-use Rattle.rm_evidence.specs.Objects.{piece_entry}
-use Rattle.rm_evidence.specs.declared.evidence.InPlace.{InPlace}
+use Rattle.rm_catalog.specs.{Keys.{base}, declared.record.{PieceEntry.{PieceEntry}, Record.{Record}}}
+use Rattle.rm_catalog_typed.specs.{Ledger.{Ledger}, TypedCatalog.{TypedCatalog}}
+use Rattle.rm_evidence.specs.{Names.{piece_name}, Objects.{piece_entry}, declared.evidence.InPlace.{InPlace}}
 use Rattle.rm_history.specs.declared.world.World.{World}
-use Rattle.rm_piece.specs.Spelling.{spelling}
-use Rattle.rm_piece.specs.declared.piece.Piece.{Piece}
+use Rattle.rm_piece.specs.{Spelling.{spelling}, declared.piece.Piece.{Piece}}
 use Rattle.rm_dup.specs.Copies.{copies_of, duplicated}
 
 -- the latest moment that the records keep; 0 without a database

@@ -1,7 +1,6 @@
 //! The copies of a duplicate.
 ghost use Rattle.std.specs.Prelude.{◌≡◌, ◌≤◌, All, IfOk, length, map};
-ghost use Rattle.rm_dup.specs.Copies.{copies_of};
-ghost use Rattle.rm_dup.specs.Copies.{copy_as as copied};
+ghost use Rattle.rm_dup.specs.Copies.{copies_of, copy_as as copied};
 
 use rm_base::{FileNo, Kind, NoMemory, Scn, Seq};
 use rm_blocks::DataFile;

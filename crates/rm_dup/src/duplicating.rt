@@ -2,8 +2,7 @@
 ghost use Rattle.std.specs.Prelude.{◌≡◌, ◌≤◌, All, IfErr, IfOk, IsErrOf, length};
 ghost use Rattle.rm_apply.specs.Recover.{FindsGap, IfGap, outside, until_of};
 ghost use Rattle.rm_base.specs.Outside.{Rose};
-ghost use Rattle.rm_catalog.specs.Rules.{HasDatabase, IsCatalog};
-ghost use Rattle.rm_catalog.specs.Trees.{nodes};
+ghost use Rattle.rm_catalog.specs.{Rules.{HasDatabase, IsCatalog}, Trees.{nodes}};
 ghost use Rattle.rm_evidence.specs.Place.{FitsPlace};
 ghost use Rattle.rm_history.specs.Tree.{IsThere};
 ghost use Rattle.rm_piece.specs.Valid.{IsPiece};

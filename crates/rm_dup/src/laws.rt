@@ -1,24 +1,12 @@
 //! What a duplicate is good for.
 ghost use Rattle.std.specs.Prelude.{◌≡◌, ◌<◌, ◌≤◌, ◌^◌, ℕ, List, None, Option, Some};
-ghost use Rattle.rm_apply.specs.Files.{AreExactly};
-ghost use Rattle.rm_apply.specs.Recover.{FindsGap, TellsAll, outside};
-ghost use Rattle.rm_apply.specs.declared.recovering.Recovered.{Recovered};
-ghost use Rattle.rm_base.specs.Store.{Held};
-ghost use Rattle.rm_base.specs.declared.block.Change.{Change};
-ghost use Rattle.rm_catalog.specs.Rules.{HasDatabase, IsCatalog};
-ghost use Rattle.rm_catalog.specs.Trees.{nodes};
-ghost use Rattle.rm_catalog.specs.declared.record.Record.{Record};
-ghost use Rattle.rm_evidence.specs.Database.{world_of};
-ghost use Rattle.rm_evidence.specs.Known.{known_of};
-ghost use Rattle.rm_evidence.specs.declared.evidence.InPlace.{InPlace};
-ghost use Rattle.rm_history.specs.Evidence.{Agrees};
-ghost use Rattle.rm_history.specs.History.{IsHistory};
-ghost use Rattle.rm_history.specs.Tree.{IsThere};
-ghost use Rattle.rm_plan.specs.Plan.{IsFileTarget};
-ghost use Rattle.rm_plan.specs.declared.plan.Gap.{Gap};
-ghost use Rattle.rm_dup.specs.Copies.{made_of};
-ghost use Rattle.rm_dup.specs.Duplicate.{IsDuplicate};
-ghost use Rattle.rm_dup.specs.Entries.{HoldsCopies, nothing, restored};
+ghost use Rattle.rm_apply.specs.{Files.{AreExactly}, Recover.{FindsGap, TellsAll, outside}, declared.recovering.Recovered.{Recovered}};
+ghost use Rattle.rm_base.specs.{Store.{Held}, declared.block.Change.{Change}};
+ghost use Rattle.rm_catalog.specs.{Rules.{HasDatabase, IsCatalog}, Trees.{nodes}, declared.record.Record.{Record}};
+ghost use Rattle.rm_evidence.specs.{Database.{world_of}, Known.{known_of}, declared.evidence.InPlace.{InPlace}};
+ghost use Rattle.rm_history.specs.{Evidence.{Agrees}, History.{IsHistory}, Tree.{IsThere}};
+ghost use Rattle.rm_plan.specs.{Plan.{IsFileTarget}, declared.plan.Gap.{Gap}};
+ghost use Rattle.rm_dup.specs.{Copies.{made_of}, Duplicate.{IsDuplicate}, Entries.{HoldsCopies, nothing, restored}};
 ghost use Rattle.rm_dup.specs.declared.database.Duplicate.{Duplicate};
 
 /// A duplicate comes back: over its records and a store that has its copies, with nothing in place or with the copies

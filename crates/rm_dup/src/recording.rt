@@ -1,15 +1,10 @@
 //! The records of a duplicate.
 ghost use Rattle.std.specs.Prelude.{◌≡◌, ◌≤◌, ◌++◌, All, IfOk, OnOk, length, map};
-ghost use Rattle.rm_catalog.specs.Rules.{HasDatabase};
-ghost use Rattle.rm_catalog.specs.Switches.{began_with};
-ghost use Rattle.rm_catalog.specs.declared.record.Record.TheVariants as kind;
-ghost use Rattle.rm_catalog_typed.specs.Ledger.{datafile_record, numbered};
-ghost use Rattle.rm_catalog_typed.specs.TypedCatalog.{records_of};
+ghost use Rattle.rm_catalog.specs.{Rules.{HasDatabase}, Switches.{began_with}, declared.record.Record.TheVariants as kind};
+ghost use Rattle.rm_catalog_typed.specs.{Ledger.{datafile_record, numbered}, TypedCatalog.{records_of}};
 ghost use Rattle.rm_evidence.specs.Database.{world_of};
 ghost use Rattle.rm_piece.specs.Valid.{IsPiece};
-ghost use Rattle.rm_dup.specs.Copies.{as_first, copies_of};
-ghost use Rattle.rm_dup.specs.Entries.{catalog_of, moment_in};
-ghost use Rattle.rm_dup.specs.Entries.{entry_of as entry_for};
+ghost use Rattle.rm_dup.specs.{Copies.{as_first, copies_of}, Entries.{catalog_of, moment_in, entry_of as entry_for}};
 
 use rm_base::{FileNo, Moment, NoMemory, Policy, Scn, Seq, Status, Text, ThreadNo};
 use rm_blocks::DataFile;

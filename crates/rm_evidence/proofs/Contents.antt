@@ -1,23 +1,11 @@
 -- What is seen of a block has 64 bytes.
-use Rattle.std.proofs.Common.{◌≡◌, ℕ, List, refl, subst, sym, Contains, length}
-use Rattle.std.proofs.lemmas.List.Elements.{All-contains}
-use Rattle.rm_base.specs.declared.block.Block.{Block}
-use Rattle.rm_base.specs.declared.block.Change.{Change}
-use Rattle.rm_base.specs.declared.block.Row.{Row}
-use Rattle.rm_base.proofs.Lists.{map_from}
-use Rattle.rm_evidence.specs.declared.evidence.Evidence.{Evidence}
-use Rattle.rm_evidence.specs.Known.{FitsLog, FitsPiece, FitsTree, known_of}
-use Rattle.rm_history.specs.declared.tree.Incarnation.{Incarnation}
-use Rattle.rm_history.specs.declared.world.World.{World}
-use Rattle.rm_history.specs.Artefacts as artefact
-use Rattle.rm_history.specs.Known.{HasChange, HasRow, Seen, by_creation, by_log, by_row, in_base, in_level1}
-use Rattle.rm_piece.specs.declared.piece.Piece.{Piece}
-use Rattle.rm_piece.specs.Artefacts.{base_of, level1_of}
-use Rattle.rm_piece.specs.Valid.{IsRow}
-use Rattle.rm_redo.specs.declared.log_file.LogFile.{LogFile}
-use Rattle.rm_redo.specs.declared.online.LogRecord.{LogRecord}
-use Rattle.rm_redo.specs.LogFile.{log_of}
-use Rattle.rm_redo.specs.LogFormat.{IsLogRecord}
+use Rattle.std.proofs.{Common.{◌≡◌, ℕ, List, refl, subst, sym, Contains, length}, lemmas.List.Elements.{All-contains}}
+use Rattle.rm_base.{specs.declared.block.{Block.{Block}, Change.{Change}, Row.{Row}}, proofs.Lists.{map_from}}
+use Rattle.rm_evidence.specs.{Known.{FitsLog, FitsPiece, FitsTree, known_of}, declared.evidence.Evidence.{Evidence}}
+use Rattle.rm_history.specs.{Artefacts as artefact, Known.{HasChange, HasRow, Seen, by_creation, by_log, by_row, in_base, in_level1}}
+use Rattle.rm_history.specs.declared.{tree.Incarnation.{Incarnation}, world.World.{World}}
+use Rattle.rm_piece.specs.{Artefacts.{base_of, level1_of}, Valid.{IsRow}, declared.piece.Piece.{Piece}}
+use Rattle.rm_redo.specs.{LogFile.{log_of}, LogFormat.{IsLogRecord}, declared.{log_file.LogFile.{LogFile}, online.LogRecord.{LogRecord}}}
 
 module _ (ns : List Incarnation) (e : Evidence) (fits : FitsTree ns e) where
   piece-row : (pieces : List (ℕ × Piece)) (p : ℕ × Piece) (r : Row) → Contains pieces p → (fit : FitsPiece ns p.1) → Contains p.1.rows r → length r.content.0 ≡ 64

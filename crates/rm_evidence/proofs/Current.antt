@@ -1,30 +1,16 @@
 -- What the records of a catalog say of the current incarnation and of datafiles.
+use Rattle.std.specs.{Prelude.{IsSome, option_and_then}, Option.{option_map, option_map_or}}
 use Rattle.std.proofs.Common.{◌≡◌, ◌∙◌, ◌<◌, ◌≤◌, ◌-◌, cond, slice_get, ℕ, List, Option, Some, None, refl, ap, sym, subst, arith, Contains}
-use Rattle.std.specs.Prelude.{IsSome, option_and_then}
-use Rattle.std.specs.Option.{option_map, option_map_or}
-use Rattle.std.proofs.lemmas.Bool.{false≢true, ne_eqb}
-use Rattle.std.proofs.lemmas.Option.{same_Some}
-use Rattle.rm_catalog.specs.declared.record.BaseEntry.{BaseEntry}
-use Rattle.rm_catalog.specs.declared.record.DatafileEntry.{DatafileEntry}
-use Rattle.rm_catalog.specs.declared.record.IncarnationEntry.{IncarnationEntry}
-use Rattle.rm_catalog.specs.declared.record.Record.{Record}
-use Rattle.rm_catalog.specs.declared.record.Record.TheVariants as records
-use Rattle.rm_catalog.specs.Facts.{BaseRule}
-use Rattle.rm_catalog.specs.Keys.{incarnation, place, place_of, at, base, base_in, datafile, incarnation_in}
-use Rattle.rm_catalog.specs.Rules.{IsCatalog, HasDatabase}
-use Rattle.rm_catalog.specs.Trees.{nodes, node}
-use Rattle.rm_catalog.proofs.Numbering.{number_there}
-use Rattle.rm_catalog.proofs.Told.{found_is}
+use Rattle.std.proofs.lemmas.{Bool.{false≢true, ne_eqb}, Option.{same_Some}}
+use Rattle.rm_catalog.specs.{Facts.{BaseRule}, Keys.{incarnation, place, place_of, at, base, base_in, datafile, incarnation_in}}
+use Rattle.rm_catalog.specs.{Rules.{IsCatalog, HasDatabase}, Trees.{nodes, node}, declared.record.BaseEntry.{BaseEntry}}
+use Rattle.rm_catalog.specs.declared.record.{DatafileEntry.{DatafileEntry}, IncarnationEntry.{IncarnationEntry}, Record.{Record}}
+use Rattle.rm_catalog.{specs.declared.record.Record.TheVariants as records, proofs.{Numbering.{number_there}, Told.{found_is}}}
 use Rattle.rm_catalog.proofs.Trees.{length_nodes, node_at}
 use Rattle.rm_base.specs.Numbers.{last_scn}
-use Rattle.rm_history.specs.declared.tree.Incarnation.{Incarnation}
-use Rattle.rm_history.specs.declared.world.Datafile.{Datafile}
-use Rattle.rm_history.specs.Tree as tree
-use Rattle.rm_history.specs.World.{file_of}
-use Rattle.rm_evidence.specs.Database.{created_by, current_in, world_of, IsCurrent}
-use Rattle.rm_evidence.proofs.Files.{file_of-is}
-use Rattle.rm_evidence.proofs.DatabaseWorlds.{is-sound}
-use Rattle.rm_evidence.proofs.Found.{obeys, incarnation-rule, datafile-rule, datafile-there}
+use Rattle.rm_history.specs.{Tree as tree, World.{file_of}, declared.{tree.Incarnation.{Incarnation}, world.Datafile.{Datafile}}}
+use Rattle.rm_evidence.{specs.Database.{created_by, current_in, world_of, IsCurrent}, proofs.Files.{file_of-is}}
+use Rattle.rm_evidence.proofs.{DatabaseWorlds.{is-sound}, Found.{obeys, incarnation-rule, datafile-rule, datafile-there}}
 
 base_at : (y : Record) → place_of y ≡ place 1 0 → (b : BaseEntry) × (base_in y ≡ Some b)
 base_at (records.Base b) h = (b, refl)

@@ -1,11 +1,10 @@
 -- Lists that grow, each two items related.
-use Rattle.std.proofs.Common.{◌≡◌, ◌<◌, ◌⊎◌, ◌∙◌, ℕ, suc, List, [], ◌∷◌, ◌++◌, get_or, map, AllPairs, Contains, ap, length, sym, subst, arith, inl, inr}
 use Rattle.std.specs.Prelude.{◌↔◌}
+use Rattle.std.proofs.Common.{◌≡◌, ◌<◌, ◌⊎◌, ◌∙◌, ℕ, suc, List, [], ◌∷◌, ◌++◌, get_or, map, AllPairs, Contains, ap, length, sym, subst, arith, inl, inr}
 use Rattle.std.proofs.lemmas.List.{append-nil, append_assoc, get_or-map, length-map}
 use Rattle.std.proofs.lemmas.List.Elements.{Contains-append_cases, Contains-append_left, Contains-append_right, Contains-get_or}
 use Rattle.std.proofs.lemmas.List.Kept.{AllPairs-cons}
-use Rattle.rm_base.proofs.Lists.{map_from}
-use Rattle.rm_base.proofs.Members.{in-front, behind, none-in, first-or-rest}
+use Rattle.rm_base.proofs.{Lists.{map_from}, Members.{in-front, behind, none-in, first-or-rest}}
 use Rattle.rm_evidence.specs.Taking.{Extends}
 
 pub only-in : {X : Type 0} (x y : X) → Contains (x ∷ []) y → x ≡ y

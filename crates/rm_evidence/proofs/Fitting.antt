@@ -1,38 +1,18 @@
 -- What is in place fits a catalog, and what is gathered.
-use Rattle.std.proofs.Common.{◌≡◌, ◌≢◌, ◌∙◌, ◌<◌, ◌≤◌, ◌-◌, ℕ, suc, List, [], ◌∷◌, Option, Some, None, length, get_or, slice_get, map, All, AllPairs, Contains, sym, subst, arith, inl, inr}
 use Rattle.std.specs.Prelude.{IsSomeAnd}
-use Rattle.std.proofs.lemmas.List.Elements.{All-append, All-cons, All-contains, All-map, Contains-get_or}
-use Rattle.std.proofs.lemmas.Option.{slice_get-get_or}
-use Rattle.rm_base.specs.Store.{Held}
-use Rattle.rm_base.specs.declared.block.Row.{Row}
-use Rattle.rm_base.specs.declared.kinds.Kind.TheVariants.{Level1}
+use Rattle.std.proofs.Common.{◌≡◌, ◌≢◌, ◌∙◌, ◌<◌, ◌≤◌, ◌-◌, ℕ, suc, List, [], ◌∷◌, Option, Some, None, length, get_or, slice_get, map, All, AllPairs, Contains, sym, subst, arith, inl, inr}
+use Rattle.std.proofs.lemmas.{List.Elements.{All-append, All-cons, All-contains, All-map, Contains-get_or}, Option.{slice_get-get_or}}
+use Rattle.rm_base.specs.{Store.{Held}, declared.{block.Row.{Row}, kinds.Kind.TheVariants.{Level1}}}
 use Rattle.rm_blocks.specs.File.{IsInOrder}
-use Rattle.rm_catalog.specs.declared.record.Record.{Record}
-use Rattle.rm_catalog.specs.declared.record.Record.TheVariants as kind
-use Rattle.rm_catalog.specs.declared.record.SetEntry.{SetEntry}
-use Rattle.rm_catalog.specs.declared.record.SetPart.{SetPart}
-use Rattle.rm_catalog.specs.Objects.{IsRange, LogRule, PieceRule}
-use Rattle.rm_catalog.specs.Rules.{IsCatalog}
-use Rattle.rm_catalog.specs.SetRules.{SetPartRule, SetRule}
-use Rattle.rm_catalog.specs.Trees.{nodes}
-use Rattle.rm_history.specs.Tree.{IsThere}
-use Rattle.rm_evidence.proofs.Found.{obeys}
-use Rattle.rm_evidence.proofs.DatabaseWorlds.{some-there}
-use Rattle.rm_history.specs.declared.world.Datafile.{Datafile}
-use Rattle.rm_piece.specs.declared.piece.Piece.{Piece}
-use Rattle.rm_piece.specs.declared.set.Set.{Set}
-use Rattle.rm_piece.specs.declared.set.SetFile.{SetFile}
-use Rattle.rm_piece.specs.Sets.{IsMember}
-use Rattle.rm_piece.specs.Valid.{IsBefore}
-use Rattle.rm_evidence.specs.declared.evidence.Evidence.{Evidence}
-use Rattle.rm_evidence.specs.declared.evidence.InPlace.{InPlace}
+use Rattle.rm_catalog.specs.{Objects.{IsRange, LogRule, PieceRule}, Rules.{IsCatalog}, SetRules.{SetPartRule, SetRule}, Trees.{nodes}}
+use Rattle.rm_catalog.specs.declared.record.{Record.{Record, TheVariants as kind}, SetEntry.{SetEntry}, SetPart.{SetPart}}
+use Rattle.rm_history.specs.{Tree.{IsThere}, declared.world.Datafile.{Datafile}}
 use Rattle.rm_evidence.specs.Database.{Database, database_in, datafiles, dbid_in}
 use Rattle.rm_evidence.specs.Gathered.{placed, placed_piece, ById, ByIdAndFile, IsBaseOf, IsGathered, IsLevel1Of, IsLogOf, IsPieceAmong, ListsBy}
-use Rattle.rm_evidence.specs.Known.{AreRecorded, FitsLog, FitsPiece, FitsTree, IsPartOf, IsRecorded}
-use Rattle.rm_evidence.specs.Objects.{IsAsCreated, IsSetObject}
-use Rattle.rm_evidence.specs.Place.{FitsPlace, placed_evidence}
-use Rattle.rm_evidence.specs.Taking.{HasIncarnation}
-use Rattle.rm_evidence.proofs.Parts.{part-of}
+use Rattle.rm_evidence.specs.{Known.{AreRecorded, FitsLog, FitsPiece, FitsTree, IsPartOf, IsRecorded}, Objects.{IsAsCreated, IsSetObject}}
+use Rattle.rm_evidence.specs.{Place.{FitsPlace, placed_evidence}, Taking.{HasIncarnation}, declared.evidence.Evidence.{Evidence}}
+use Rattle.rm_evidence.{specs.declared.evidence.InPlace.{InPlace}, proofs.{Found.{obeys}, DatabaseWorlds.{some-there}, Parts.{part-of}}}
+use Rattle.rm_piece.specs.{Sets.{IsMember}, Valid.{IsBefore}, declared.{piece.Piece.{Piece}, set.{Set.{Set}, SetFile.{SetFile}}}}
 
 -- blocks in order ascend
 pub ascends : (rows : List Row) → IsInOrder rows → AllPairs IsBefore rows

@@ -1,17 +1,10 @@
 -- What stands under a name spells one artefact, or it is bad for one reason.
-use Rattle.std.proofs.Common.{◌≡◌, ◌∙◌, ℕ, List, Option, Some, None, refl, sym, subst}
-use Rattle.std.specs.Prelude.{Ok, Err}
+use Rattle.std.{specs.Prelude.{Ok, Err}, proofs.Common.{◌≡◌, ◌∙◌, ℕ, List, Option, Some, None, refl, sym, subst}}
 use Rattle.std.proofs.lemmas.Option.{same_Some}
-use Rattle.rm_base.specs.declared.kinds.Bad.{Bad}
-use Rattle.rm_base.specs.declared.kinds.Bad.TheVariants.{Missing, Damaged}
-use Rattle.rm_catalog.specs.declared.record.LogEntry.{LogEntry}
-use Rattle.rm_catalog.specs.declared.record.PieceEntry.{PieceEntry}
-use Rattle.rm_catalog.specs.declared.record.SetEntry.{SetEntry}
-use Rattle.rm_evidence.specs.Database.{Database}
-use Rattle.rm_evidence.specs.Taking.{IsTold}
-use Rattle.rm_evidence.specs.Objects.{IsLogObject, IsPieceObject, IsSetObject}
-use Rattle.rm_piece.proofs.Fitting.{spelling_same as piece_same}
-use Rattle.rm_piece.proofs.SetFitting.{spelling_same as set_same}
+use Rattle.rm_base.specs.declared.kinds.Bad.{Bad, TheVariants.{Missing, Damaged}}
+use Rattle.rm_catalog.specs.declared.record.{LogEntry.{LogEntry}, PieceEntry.{PieceEntry}, SetEntry.{SetEntry}}
+use Rattle.rm_evidence.specs.{Database.{Database}, Taking.{IsTold}, Objects.{IsLogObject, IsPieceObject, IsSetObject}}
+use Rattle.rm_piece.proofs.{Fitting.{spelling_same as piece_same}, SetFitting.{spelling_same as set_same}}
 use Rattle.rm_redo.proofs.LogFitting.{spelling_same as log_same}
 
 -- bytes spell one artefact at most

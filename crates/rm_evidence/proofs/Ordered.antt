@@ -1,32 +1,18 @@
 -- The records of objects, in the order of their ids.
+use Rattle.std.specs.{List.{cons_option, filter_map}, Option.{option_map, option_map_or}, Prelude.{IsPermutation}}
 use Rattle.std.proofs.Common.{◌≡◌, ◌≢◌, ◌∙◌, ◌+◌, ◌<◌, ◌≤◌, ℕ, List, [], ◌∷◌, ◌++◌, Option, Some, None, length, get_or, map, take, AllPairs, Contains, refl, ap, sym, subst, arith}
-use Rattle.std.specs.List.{cons_option, filter_map}
-use Rattle.std.specs.Option.{option_map, option_map_or}
-use Rattle.std.specs.Prelude.{IsPermutation}
 use Rattle.std.proofs.Math.Seq.{take-length}
 use Rattle.std.proofs.lemmas.List.{append-nil, get_or-map, get_or-take, get_or_default, length-map, length-take, map-append, take_more}
-use Rattle.std.proofs.lemmas.List.Elements.{Contains-get_or, filter_map-append}
-use Rattle.std.proofs.lemmas.List.Kept.{AllPairs-cons}
-use Rattle.std.proofs.lemmas.List.Sorted.{Contains-permutation, IsPermutation-map, IsPermutation-sym}
-use Rattle.std.proofs.lemmas.Option.{same_Some}
-use Rattle.rm_base.specs.Store.{Held}
-use Rattle.rm_base.proofs.Lists.{map_from, map_to}
-use Rattle.rm_catalog.specs.declared.record.Record.{Record}
-use Rattle.rm_catalog.specs.Rules.{IsCatalog}
-use Rattle.rm_catalog.proofs.Numbering.{rises_catalog}
+use Rattle.std.proofs.lemmas.List.{Elements.{Contains-get_or, filter_map-append}, Kept.{AllPairs-cons}}
+use Rattle.std.proofs.lemmas.{List.Sorted.{Contains-permutation, IsPermutation-map, IsPermutation-sym}, Option.{same_Some}}
+use Rattle.rm_base.{specs.Store.{Held}, proofs.Lists.{map_from, map_to}}
+use Rattle.rm_catalog.{specs.{Rules.{IsCatalog}, declared.record.Record.{Record}}, proofs.Numbering.{rises_catalog}}
 use Rattle.rm_catalog.proofs.Telling.{record-told, told-record}
-use Rattle.rm_evidence.specs.declared.evidence.Evidence.{Evidence}
-use Rattle.rm_evidence.specs.declared.evidence.InPlace.{InPlace}
-use Rattle.rm_evidence.specs.Database.{Database, database_in, dbid_in}
-use Rattle.rm_evidence.specs.Gathered.{IsGathered}
-use Rattle.rm_evidence.specs.Names.{object_id}
-use Rattle.rm_evidence.specs.Place.{placed_evidence}
-use Rattle.rm_evidence.specs.Seen.{IsSeen}
-use Rattle.rm_evidence.specs.Taking.{Adds, AreObjects, HasId, with_object}
-use Rattle.rm_evidence.proofs.Extending.{pairs-head, pairs-mapped, pairs-tail}
+use Rattle.rm_evidence.specs.{Database.{Database, database_in, dbid_in}, Gathered.{IsGathered}, Names.{object_id}, Place.{placed_evidence}}
+use Rattle.rm_evidence.specs.{Seen.{IsSeen}, Taking.{Adds, AreObjects, HasId, with_object}, declared.evidence.Evidence.{Evidence}}
+use Rattle.rm_evidence.{specs.declared.evidence.InPlace.{InPlace}, proofs.Extending.{pairs-head, pairs-mapped, pairs-tail}}
 use Rattle.rm_evidence.proofs.Runs.{adds-by_objects, adds-then, apart, gathered, places-ascend}
-use Rattle.rm_evidence.proofs.Seen.{adds-as, ahead-named, seen-more, seen-then}
-use Rattle.rm_evidence.proofs.Single.{IsAhead}
+use Rattle.rm_evidence.proofs.{Seen.{adds-as, ahead-named, seen-more, seen-then}, Single.{IsAhead}}
 
 -- what is told of each two records is so related
 told-pairs : {A : Type 0} (tell : Record → Option A) (R : A → A → Type 0) (rs : List Record) → AllPairs (λ r s. (x y : A) → tell r ≡ Some x → tell s ≡ Some y → R x y) rs → AllPairs R (filter_map tell rs)

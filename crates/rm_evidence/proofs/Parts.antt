@@ -3,11 +3,8 @@ use Rattle.std.proofs.Common.{◌≡◌, ◌+◌, ◌<◌, ◌-◌, ◌≤◌, c
 use Rattle.std.proofs.lemmas.Bool.{ne_eqb}
 use Rattle.rm_base.proofs.Members.{in-front, behind, none-in, first-or-rest}
 use Rattle.rm_catalog.specs.declared.record.SetPart.{SetPart}
-use Rattle.rm_history.specs.declared.world.World.{World}
-use Rattle.rm_history.specs.World.{file_of}
-use Rattle.rm_piece.specs.declared.set.Set.{Set}
-use Rattle.rm_piece.specs.declared.set.SetFile.{SetFile}
-use Rattle.rm_piece.specs.Sets.{IsSet}
+use Rattle.rm_history.specs.{World.{file_of}, declared.world.World.{World}}
+use Rattle.rm_piece.specs.{Sets.{IsSet}, declared.set.{Set.{Set}, SetFile.{SetFile}}}
 use Rattle.rm_evidence.specs.Objects.{AreParts, HasPartFields}
 
 pub same-length : (ps : List SetPart) (ms : List SetFile) → AreParts ps ms → length ps ≡ length ms

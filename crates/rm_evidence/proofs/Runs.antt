@@ -1,36 +1,17 @@
 -- What the records of a catalog add, one after the other.
 use Rattle.std.proofs.Common.{◌≡◌, ◌≢◌, ◌∙◌, ◌+◌, ◌<◌, ℕ, List, [], ◌∷◌, ◌++◌, Some, length, get_or, take, AllPairs, Contains, refl, ap, sym, arith, inl}
-use Rattle.std.proofs.lemmas.List.{get_or_default, get_or-take, length-take}
-use Rattle.std.proofs.lemmas.List.Elements.{Contains-get_or}
-use Rattle.std.proofs.lemmas.List.Kept.{AllPairs-cons}
+use Rattle.std.proofs.lemmas.List.{get_or_default, get_or-take, length-take, Elements.{Contains-get_or}, Kept.{AllPairs-cons}}
 use Rattle.std.proofs.lemmas.Option.{same_Some}
-use Rattle.rm_base.specs.Store.{Held}
-use Rattle.rm_base.specs.declared.kinds.Bad.{Bad}
-use Rattle.rm_base.proofs.Members.{none-in}
-use Rattle.rm_catalog.specs.declared.record.LogEntry.{LogEntry}
-use Rattle.rm_catalog.specs.declared.record.PieceEntry.{PieceEntry}
-use Rattle.rm_catalog.specs.declared.record.SetEntry.{SetEntry}
-use Rattle.rm_catalog.specs.declared.record.Record.{Record}
-use Rattle.rm_catalog.specs.declared.record.Record.TheVariants as kind
-use Rattle.rm_catalog.specs.Keys.{place, place_of}
-use Rattle.rm_catalog.specs.Objects.{LogRule, PieceRule}
-use Rattle.rm_catalog.specs.Rules.{IsCatalog}
-use Rattle.rm_catalog.proofs.ByKinds.{free-in}
-use Rattle.rm_catalog.proofs.Numbering.{rises_catalog}
-use Rattle.rm_catalog.proofs.Told.{some_is}
-use Rattle.rm_catalog.proofs.Unique.{Rises, all_above}
+use Rattle.rm_base.{specs.{Store.{Held}, declared.kinds.Bad.{Bad}}, proofs.Members.{none-in}}
+use Rattle.rm_catalog.specs.{Keys.{place, place_of}, Objects.{LogRule, PieceRule}, Rules.{IsCatalog}, declared.record.LogEntry.{LogEntry}}
+use Rattle.rm_catalog.specs.declared.record.{PieceEntry.{PieceEntry}, SetEntry.{SetEntry}, Record.{Record, TheVariants as kind}}
+use Rattle.rm_catalog.proofs.{ByKinds.{free-in}, Numbering.{rises_catalog}, Told.{some_is}, Unique.{Rises, all_above}}
 use Rattle.rm_piece.specs.declared.piece.Piece.{Piece}
 use Rattle.rm_redo.specs.declared.log_file.LogFile.{LogFile}
-use Rattle.rm_evidence.specs.declared.evidence.Evidence.{Evidence}
-use Rattle.rm_evidence.specs.declared.evidence.InPlace.{InPlace}
-use Rattle.rm_evidence.specs.Available.{IsSkippedAmong}
-use Rattle.rm_evidence.specs.Database.{Database, database_in, dbid_in}
-use Rattle.rm_evidence.specs.Gathered.{ById, ByIdAndFile, IsBaseAmong, IsGathered, IsLevel1Among, IsLogOf}
-use Rattle.rm_evidence.specs.Names.{object_id}
-use Rattle.rm_evidence.specs.Place.{placed_evidence}
-use Rattle.rm_evidence.specs.Taking.{Adds, Extends}
-use Rattle.rm_evidence.proofs.Extending.{extends-as, extends-none}
-use Rattle.rm_evidence.proofs.Found.{obeys}
+use Rattle.rm_evidence.specs.{Available.{IsSkippedAmong}, Database.{Database, database_in, dbid_in}}
+use Rattle.rm_evidence.specs.{Gathered.{ById, ByIdAndFile, IsBaseAmong, IsGathered, IsLevel1Among, IsLogOf}, Names.{object_id}}
+use Rattle.rm_evidence.specs.{Place.{placed_evidence}, Taking.{Adds, Extends}, declared.evidence.{Evidence.{Evidence}, InPlace.{InPlace}}}
+use Rattle.rm_evidence.proofs.{Extending.{extends-as, extends-none}, Found.{obeys}}
 use Rattle.rm_evidence.proofs.Records.{base-by, bases-single, level1-by, level1s-single, log-by, logs-single, bad-by, skipped-single}
 use Rattle.rm_evidence.proofs.Single.{AreRelated, IsAhead, IsOfOne, extends-more, same-objects}
 

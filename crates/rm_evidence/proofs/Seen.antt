@@ -1,31 +1,15 @@
 -- What is seen of a store, whatever it tells: the bytes that are seen of one record after the other go into one map.
+use Rattle.std.specs.{Prelude.{Ok, Result, IfSome}, Str.{bytes_eq}}
 use Rattle.std.proofs.Common.{◌≡◌, ◌≢◌, ◌∙◌, ◌<◌, ℕ, ◌^◌, cond, List, [], ◌∷◌, length, get_or, take, Option, Some, None, Contains, refl, ap, sym, subst, arith, inl, inr}
-use Rattle.std.specs.Prelude.{Ok, Result, IfSome}
-use Rattle.std.specs.Str.{bytes_eq}
-use Rattle.std.proofs.lemmas.Bool.{cond-true, cond-false, false_from_ne_true}
-use Rattle.std.proofs.lemmas.Option.{same_Some}
-use Rattle.std.proofs.lemmas.Slice.Eq.{bytes_eq-Decides}
-use Rattle.rm_base.specs.Store.{Held}
-use Rattle.rm_base.specs.declared.kinds.Bad.{Bad}
-use Rattle.rm_catalog.specs.declared.record.LogEntry.{LogEntry}
-use Rattle.rm_catalog.specs.declared.record.PieceEntry.{PieceEntry}
-use Rattle.rm_catalog.specs.declared.record.SetEntry.{SetEntry}
-use Rattle.rm_catalog.specs.declared.record.Record.{Record}
-use Rattle.rm_catalog.specs.declared.record.Record.TheVariants as kind
-use Rattle.rm_catalog.specs.Keys.{key_of}
-use Rattle.rm_catalog.specs.Rules.{IsCatalog}
-use Rattle.rm_evidence.specs.declared.evidence.Evidence.{Evidence}
-use Rattle.rm_evidence.specs.Available.{IsBad, IsSkippedAmong, a_log, a_piece, a_set}
-use Rattle.rm_evidence.specs.Database.{Database}
+use Rattle.std.proofs.lemmas.{Bool.{cond-true, cond-false, false_from_ne_true}, Option.{same_Some}, Slice.Eq.{bytes_eq-Decides}}
+use Rattle.rm_base.specs.{Store.{Held}, declared.kinds.Bad.{Bad}}
+use Rattle.rm_catalog.specs.{Keys.{key_of}, Rules.{IsCatalog}, declared.record.{LogEntry.{LogEntry}, PieceEntry.{PieceEntry}}}
+use Rattle.rm_catalog.specs.declared.record.{SetEntry.{SetEntry}, Record.{Record, TheVariants as kind}}
+use Rattle.rm_evidence.specs.{Available.{IsBad, IsSkippedAmong, a_log, a_piece, a_set}, Database.{Database}}
 use Rattle.rm_evidence.specs.Gathered.{ById, ByIdAndFile, IsBaseAmong, IsLevel1Among, IsLogOf, IsPieceAmong}
-use Rattle.rm_evidence.specs.Names.{log_name, object_id, object_name, piece_name, set_name}
-use Rattle.rm_evidence.specs.Seen.{IsSeen}
-use Rattle.rm_evidence.specs.Taking.{Adds, HasId, IsTold}
-use Rattle.rm_evidence.proofs.Extending.{extends-as, only-in}
-use Rattle.rm_evidence.proofs.Names.{names-tell}
-use Rattle.rm_evidence.proofs.Records.{LogBytes, PieceBytes, SetBytes}
-use Rattle.rm_evidence.proofs.Runs.{earlier-lower, is-apart}
-use Rattle.rm_evidence.proofs.Single.{IsAhead}
+use Rattle.rm_evidence.specs.{Names.{log_name, object_id, object_name, piece_name, set_name}, Seen.{IsSeen}, Taking.{Adds, HasId, IsTold}}
+use Rattle.rm_evidence.{specs.declared.evidence.Evidence.{Evidence}, proofs.{Extending.{extends-as, only-in}, Names.{names-tell}}}
+use Rattle.rm_evidence.proofs.{Records.{LogBytes, PieceBytes, SetBytes}, Runs.{earlier-lower, is-apart}, Single.{IsAhead}}
 use Rattle.rm_piece.specs.declared.piece.Piece.{Piece}
 use Rattle.rm_redo.specs.declared.log_file.LogFile.{LogFile}
 

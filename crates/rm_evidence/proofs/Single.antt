@@ -1,11 +1,8 @@
 -- What is so of records is so by one of them, which has the id.
-use Rattle.std.proofs.Common.{◌≡◌, ◌⊎◌, ◌<◌, ℕ, List, [], ◌∷◌, ◌++◌, Some, Contains, inl, inr}
-use Rattle.std.specs.Prelude.{◌↔◌}
+use Rattle.std.{specs.Prelude.{◌↔◌}, proofs.Common.{◌≡◌, ◌⊎◌, ◌<◌, ℕ, List, [], ◌∷◌, ◌++◌, Some, Contains, inl, inr}}
 use Rattle.std.proofs.lemmas.List.Elements.{Contains-append_cases, Contains-append_left, Contains-append_right}
 use Rattle.rm_catalog.specs.declared.record.Record.{Record}
-use Rattle.rm_evidence.specs.Names.{object_id}
-use Rattle.rm_evidence.specs.Taking.{Extends}
-use Rattle.rm_evidence.proofs.Extending.{extends-then}
+use Rattle.rm_evidence.{specs.{Names.{object_id}, Taking.{Extends}}, proofs.Extending.{extends-then}}
 
 pub record IsOfOne (A : Type 0) (P : List Record → ℕ → A → Type 0) : Type 0 where
   pub one : (rs : List Record) (id : ℕ) (a : A) → P rs id a → (r : Record) × Contains rs r × P (r ∷ []) id a

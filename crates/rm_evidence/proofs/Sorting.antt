@@ -1,10 +1,7 @@
 -- Ids that differ ascend strictly once they are sorted.
+use Rattle.std.specs.List.{AllByRecursion, IsDistinct, Sorted.{IsNonDecreasingBy, IsPermutation}}
 use Rattle.std.proofs.Common.{◌≡◌, ◌≢◌, ◌<◌, ◌≤◌, ℕ, Bool, false, eqb, List, [], ◌∷◌, get_or, AllPairs, Contains, inl, inr, subst, arith}
-use Rattle.std.specs.List.{AllByRecursion, IsDistinct}
-use Rattle.std.specs.List.Sorted.{IsNonDecreasingBy, IsPermutation}
-use Rattle.std.proofs.lemmas.Bool.Decides.{nat_tests}
-use Rattle.std.proofs.lemmas.List.Elements.{Contains-get_or}
-use Rattle.std.proofs.lemmas.List.Kept.{AllPairs-cons}
+use Rattle.std.proofs.lemmas.{Bool.Decides.{nat_tests}, List.{Elements.{Contains-get_or}, Kept.{AllPairs-cons}}}
 use Rattle.std.proofs.lemmas.Map.Keys.{IsDistinct-IsPermutation}
 use Rattle.rm_base.proofs.Members.{in-front, behind, none-in, first-or-rest}
 use Rattle.rm_evidence.proofs.Extending.{pairs-head, pairs-tail}

@@ -1,10 +1,8 @@
 -- The database of a catalog is a world.
 use Rattle.std.proofs.Common.{List}
-use Rattle.rm_catalog.specs.declared.record.Record.{Record}
-use Rattle.rm_catalog.specs.Rules.{HasDatabase, IsCatalog}
+use Rattle.rm_catalog.specs.{Rules.{HasDatabase, IsCatalog}, declared.record.Record.{Record}}
 use Rattle.rm_history.specs.Unknown.{IsWorld}
-use Rattle.rm_evidence.specs.Database.{world_of}
-use Rattle.rm_evidence.proofs.DatabaseWorlds.{is-sound}
+use Rattle.rm_evidence.{specs.Database.{world_of}, proofs.DatabaseWorlds.{is-sound}}
 
 pub is_world : (rs : List Record) → IsCatalog rs → HasDatabase rs → IsWorld (world_of rs)
 is_world rs catalog database =

@@ -1,19 +1,11 @@
 -- Which records have their artefact at hand, and why others have not.
 use Rattle.std.specs.Prelude.{◌≡◌, ℕ, List, Option, Some, None, Contains}
-use Rattle.rm_base.specs.Store.{Held}
-use Rattle.rm_base.specs.declared.kinds.Bad.{Bad}
-use Rattle.rm_base.specs.declared.kinds.Bad.TheVariants.{Missing, Damaged}
-use Rattle.rm_base.specs.declared.kinds.Status.TheVariants.{Available}
-use Rattle.rm_catalog.specs.declared.record.LogEntry.{LogEntry}
-use Rattle.rm_catalog.specs.declared.record.PieceEntry.{PieceEntry}
-use Rattle.rm_catalog.specs.declared.record.Record.{Record}
-use Rattle.rm_catalog.specs.declared.record.Record.TheVariants.{Log, Piece, Set}
+use Rattle.rm_base.specs.{Store.{Held}, declared.kinds.{Bad.{Bad, TheVariants.{Missing, Damaged}}, Status.TheVariants.{Available}}}
+use Rattle.rm_catalog.specs.declared.record.{LogEntry.{LogEntry}, PieceEntry.{PieceEntry}, Record.{Record, TheVariants.{Log, Piece, Set}}}
 use Rattle.rm_catalog.specs.declared.record.SetEntry.{SetEntry}
-use Rattle.rm_evidence.specs.Database.{Database, database_in}
-use Rattle.rm_evidence.specs.Names.{log_name, piece_name, set_name}
+use Rattle.rm_evidence.specs.{Database.{Database, database_in}, Names.{log_name, piece_name, set_name}}
 use Rattle.rm_evidence.specs.Objects.{IsLogObject, IsPieceObject, IsSetObject}
-use Rattle.rm_piece.specs.declared.piece as artefact
-use Rattle.rm_piece.specs.declared.set as sets
+use Rattle.rm_piece.specs.declared.{piece as artefact, set as sets}
 use Rattle.rm_redo.specs.declared.log_file.LogFile.{LogFile}
 
 -- the record is one of a log that counts as available, and the store has its log

@@ -1,19 +1,10 @@
 -- The database of which records tell: its incarnations, threads, switches of threads and datafiles.
-use Rattle.std.specs.Prelude.{◌≡◌, ℕ, ◌<◌, ◌≤◌, Contains, List, Some}
-use Rattle.std.specs.List.{filter_map}
-use Rattle.std.specs.Option.{option_map, option_map_or}
+use Rattle.std.specs.{Prelude.{◌≡◌, ℕ, ◌<◌, ◌≤◌, Contains, List, Some}, List.{filter_map}, Option.{option_map, option_map_or}}
 use Rattle.rm_base.specs.Numbers.{last_scn}
-use Rattle.rm_history.specs.declared.tree.Incarnation.{Incarnation}
-use Rattle.rm_history.specs.declared.world.Datafile.{Datafile}
-use Rattle.rm_history.specs.declared.world.Switch.{Switch}
-use Rattle.rm_history.specs.declared.world.World.{World}
-use Rattle.rm_history.specs.Tree.{IsThere, IsTree, end_of, reset_of}
-use Rattle.rm_history.specs.World.{file_of}
-use Rattle.rm_catalog.specs.declared.record.DatafileEntry.{DatafileEntry}
-use Rattle.rm_catalog.specs.declared.record.Record.{Record}
-use Rattle.rm_catalog.specs.Keys.{base, datafile_in}
-use Rattle.rm_catalog.specs.Switches.{began_with, switches}
-use Rattle.rm_catalog.specs.Trees.{nodes}
+use Rattle.rm_history.specs.{Tree.{IsThere, IsTree, end_of, reset_of}, World.{file_of}, declared.tree.Incarnation.{Incarnation}}
+use Rattle.rm_history.specs.declared.world.{Datafile.{Datafile}, Switch.{Switch}, World.{World}}
+use Rattle.rm_catalog.specs.{Keys.{base, datafile_in}, Switches.{began_with, switches}, Trees.{nodes}}
+use Rattle.rm_catalog.specs.declared.record.{DatafileEntry.{DatafileEntry}, Record.{Record}}
 
 -- a datafile as its record tells it
 abbrev pub created_by : DatafileEntry → Datafile

@@ -1,8 +1,6 @@
 -- What a failed call of the store makes of the gathering.
-use Rattle.rm_base.specs.declared.store.StoreFail.{StoreFail}
-use Rattle.rm_base.specs.declared.store.StoreFail.TheVariants.{Failed, NoMemory}
-use Rattle.rm_evidence.specs.declared.gathering.EvidenceFault.{EvidenceFault}
-use Rattle.rm_evidence.specs.declared.gathering.EvidenceFault.TheVariants.{StoreFault, NoMemory as WithoutMemory}
+use Rattle.rm_base.specs.declared.store.StoreFail.{StoreFail, TheVariants.{Failed, NoMemory}}
+use Rattle.rm_evidence.specs.declared.gathering.EvidenceFault.{EvidenceFault, TheVariants.{StoreFault, NoMemory as WithoutMemory}}
 
 -- a fault of the store, or no memory
 abbrev pub fault_of : StoreFail → EvidenceFault

@@ -1,21 +1,13 @@
 -- What is gathered: exactly the artefacts at hand, and exactly the records that are skipped.
 use Rattle.std.specs.Prelude.{◌≡◌, ◌≢◌, ◌↔◌, ◌<◌, ◌⊎◌, ℕ, List, [], ◌++◌, length, map, Contains, AllPairs}
-use Rattle.rm_base.specs.Store.{Held}
-use Rattle.rm_base.specs.declared.kinds.Kind.TheVariants.{Level1, Place}
+use Rattle.rm_base.specs.{Store.{Held}, declared.kinds.Kind.TheVariants.{Level1, Place}}
 use Rattle.rm_blocks.specs.File.{File}
-use Rattle.rm_catalog.specs.declared.record.LogEntry.{LogEntry}
-use Rattle.rm_catalog.specs.declared.record.PieceEntry.{PieceEntry}
-use Rattle.rm_catalog.specs.declared.record.Record.{Record}
-use Rattle.rm_catalog.specs.declared.record.SetEntry.{SetEntry}
+use Rattle.rm_catalog.specs.declared.record.{LogEntry.{LogEntry}, PieceEntry.{PieceEntry}, Record.{Record}, SetEntry.{SetEntry}}
 use Rattle.rm_catalog.specs.declared.record.Record.TheVariants as kind
-use Rattle.rm_evidence.specs.declared.evidence.Evidence.{Evidence}
-use Rattle.rm_evidence.specs.declared.evidence.InPlace.{InPlace}
-use Rattle.rm_evidence.specs.Available.{HasLogObject, HasPieceObject, HasSetObject, IsSkipped}
-use Rattle.rm_evidence.specs.Database.{Database, database_in, dbid_in}
+use Rattle.rm_evidence.specs.{Available.{HasLogObject, HasPieceObject, HasSetObject, IsSkipped}, Database.{Database, database_in, dbid_in}}
+use Rattle.rm_evidence.specs.declared.evidence.{Evidence.{Evidence}, InPlace.{InPlace}}
 use Rattle.rm_history.specs.Artefacts.{high_of}
-use Rattle.rm_piece.specs.declared.piece.Piece.{Piece}
-use Rattle.rm_piece.specs.declared.set.Set.{Set}
-use Rattle.rm_piece.specs.declared.set.SetFile.{SetFile}
+use Rattle.rm_piece.specs.declared.{piece.Piece.{Piece}, set.{Set.{Set}, SetFile.{SetFile}}}
 use Rattle.rm_redo.specs.declared.log_file.LogFile.{LogFile}
 
 -- a datafile in place, as a piece of kind 4 of the database

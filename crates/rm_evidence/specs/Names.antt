@@ -1,8 +1,6 @@
 -- The names of objects, by their ids.
-use Rattle.std.specs.Prelude.{ℕ, Bool, List, ◌++◌, Option, Some, None, codes, if◌then◌else◌}
-use Rattle.std.specs.Fmt.{decimal}
-use Rattle.rm_catalog.specs.declared.record.Record.{Record}
-use Rattle.rm_catalog.specs.declared.record.Record.TheVariants.{Log, Piece, Set}
+use Rattle.std.specs.{Prelude.{ℕ, Bool, List, ◌++◌, Option, Some, None, codes, if◌then◌else◌}, Fmt.{decimal}}
+use Rattle.rm_catalog.specs.declared.record.Record.{Record, TheVariants.{Log, Piece, Set}}
 
 -- an archived log, or a backup of one
 abbrev pub log_name : ℕ → List ℕ

@@ -2,22 +2,12 @@
 use Rattle.std.specs.Prelude.{◌≡◌, ℕ, ◌-◌, Bool, List, [], ◌∷◌, length, slice_get, All, IsSomeAnd}
 use Rattle.sha2.specs.Sha256.{sha256}
 use Rattle.rm_base.specs.declared.kinds.Status.TheVariants.{Available}
-use Rattle.rm_catalog.specs.declared.record.LogEntry.{LogEntry}
-use Rattle.rm_catalog.specs.declared.record.PieceEntry.{PieceEntry}
-use Rattle.rm_catalog.specs.declared.record.SetEntry.{SetEntry}
-use Rattle.rm_catalog.specs.declared.record.SetPart.{SetPart}
+use Rattle.rm_catalog.specs.declared.record.{LogEntry.{LogEntry}, PieceEntry.{PieceEntry}, SetEntry.{SetEntry}, SetPart.{SetPart}}
 use Rattle.rm_evidence.specs.Database.{Database}
 use Rattle.rm_history.specs.declared.world.Datafile.{Datafile}
-use Rattle.rm_piece.specs.declared.piece.Piece.{Piece}
-use Rattle.rm_piece.specs.declared.set.Set.{Set}
-use Rattle.rm_piece.specs.declared.set.SetFile.{SetFile}
-use Rattle.rm_piece.specs.SetSpelling.{set_spelling, spelled}
-use Rattle.rm_piece.specs.Sets.{IsSet}
-use Rattle.rm_piece.specs.Spelling as piece
-use Rattle.rm_piece.specs.Valid.{IsPiece}
-use Rattle.rm_redo.specs.declared.log_file.LogFile.{LogFile}
-use Rattle.rm_redo.specs.LogFormat as log
-use Rattle.rm_redo.specs.LogFormat.{IsLogFile}
+use Rattle.rm_piece.specs.{Spelling as piece, SetSpelling.{set_spelling, spelled}, Sets.{IsSet}, Valid.{IsPiece}}
+use Rattle.rm_piece.specs.declared.{piece.Piece.{Piece}, set.{Set.{Set}, SetFile.{SetFile}}}
+use Rattle.rm_redo.specs.{LogFormat as log, LogFormat.{IsLogFile}, declared.log_file.LogFile.{LogFile}}
 
 -- the bytes have the size and the digest that were recorded
 pub record HasDigest (bytes : List ℕ) (n : ℕ) (digest : List ℕ) : Type 0 where

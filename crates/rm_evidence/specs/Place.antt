@@ -1,12 +1,8 @@
 -- What is in place, as evidence, and where it fits a catalog.
 use Rattle.std.specs.Prelude.{ℕ, List, [], map, All}
-use Rattle.rm_catalog.specs.declared.record.Record.{Record}
-use Rattle.rm_catalog.specs.Trees.{nodes}
-use Rattle.rm_evidence.specs.declared.evidence.Evidence.{Evidence}
-use Rattle.rm_evidence.specs.declared.evidence.InPlace.{InPlace}
-use Rattle.rm_evidence.specs.Database.{dbid_in}
-use Rattle.rm_evidence.specs.Gathered.{placed, placed_piece}
-use Rattle.rm_evidence.specs.Known.{FitsPiece, FitsLog}
+use Rattle.rm_catalog.specs.{Trees.{nodes}, declared.record.Record.{Record}}
+use Rattle.rm_evidence.specs.{Database.{dbid_in}, Gathered.{placed, placed_piece}, Known.{FitsPiece, FitsLog}}
+use Rattle.rm_evidence.specs.declared.evidence.{Evidence.{Evidence}, InPlace.{InPlace}}
 
 -- each datafile and each log in place is valid, and of an incarnation that is there
 pub record FitsPlace (rs : List Record) (place : InPlace) : Type 0 where

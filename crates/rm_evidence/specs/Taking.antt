@@ -1,19 +1,12 @@
 -- What one record after the other adds to the evidence.
 use Rattle.std.specs.Prelude.{◌≡◌, ◌↔◌, ◌<◌, ◌^◌, ℕ, List, [], ◌∷◌, ◌++◌, Contains, AllPairs, Option, Some, Result, Ok, Err}
 use Rattle.std.specs.Option.{option_map_or}
-use Rattle.rm_base.specs.Store.{Held}
-use Rattle.rm_base.specs.declared.kinds.Bad.{Bad}
-use Rattle.rm_base.specs.declared.kinds.Kind.{Kind}
-use Rattle.rm_base.specs.declared.kinds.Kind.TheVariants.{Level1}
-use Rattle.rm_catalog.specs.declared.record.Record.{Record}
-use Rattle.rm_catalog.specs.declared.record.Record.TheVariants as kind
+use Rattle.rm_base.specs.{Store.{Held}, declared.kinds.{Bad.{Bad}, Kind.{Kind, TheVariants.{Level1}}}}
+use Rattle.rm_catalog.specs.declared.record.Record.{Record, TheVariants as kind}
+use Rattle.rm_evidence.specs.{Available.{IsBad, IsSkippedAmong}, Database.{Database}}
+use Rattle.rm_evidence.specs.{Gathered.{ById, ByIdAndFile, IsBaseAmong, IsLevel1Among, IsLogOf}, Names.{object_id}}
 use Rattle.rm_evidence.specs.declared.evidence.Evidence.{Evidence}
-use Rattle.rm_evidence.specs.Available.{IsBad, IsSkippedAmong}
-use Rattle.rm_evidence.specs.Database.{Database}
-use Rattle.rm_evidence.specs.Gathered.{ById, ByIdAndFile, IsBaseAmong, IsLevel1Among, IsLogOf}
-use Rattle.rm_evidence.specs.Names.{object_id}
-use Rattle.rm_history.specs.declared.tree.Incarnation.{Incarnation}
-use Rattle.rm_history.specs.Tree.{IsThere}
+use Rattle.rm_history.specs.{Tree.{IsThere}, declared.tree.Incarnation.{Incarnation}}
 use Rattle.rm_piece.specs.declared.piece.Piece.{Piece}
 use Rattle.rm_redo.specs.declared.log_file.LogFile.{LogFile}
 

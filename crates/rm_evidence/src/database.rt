@@ -1,11 +1,7 @@
 //! The database of which the records of a catalog tell.
 ghost use Rattle.std.specs.Prelude.{◌≡◌, ◌↔◌, ◌++◌, IfOk, IsTrue, OnOk, option_to_list};
-ghost use Rattle.rm_catalog.specs.Keys.{base, datafile as entry_of};
-ghost use Rattle.rm_catalog.specs.Rules.{HasDatabase};
-ghost use Rattle.rm_catalog.specs.Trees.{nodes};
-ghost use Rattle.rm_history.specs.Tree.{IsThere};
-ghost use Rattle.rm_history.specs.World.{file_of};
-ghost use Rattle.rm_catalog.specs.Switches.{began_with, switches};
+ghost use Rattle.rm_catalog.specs.{Keys.{base, datafile as entry_of}, Rules.{HasDatabase}, Trees.{nodes}, Switches.{began_with, switches}};
+ghost use Rattle.rm_history.specs.{Tree.{IsThere}, World.{file_of}};
 ghost use Rattle.rm_evidence.specs.Database.{current_in, dbid_in, world_of};
 
 use rm_base::{FileNo, IncNo, NoMemory, ThreadNo};

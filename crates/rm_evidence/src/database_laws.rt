@@ -1,9 +1,6 @@
 //! What the definitions of the database of a catalog mean.
-ghost use Rattle.std.specs.Prelude.{ℕ, ◌≡◌, List};
-ghost use Rattle.std.specs.Option.{option_map};
-ghost use Rattle.rm_catalog.specs.declared.record.Record.{Record};
-ghost use Rattle.rm_catalog.specs.Keys.{datafile};
-ghost use Rattle.rm_catalog.specs.Rules.{HasDatabase, IsCatalog};
+ghost use Rattle.std.specs.{Prelude.{ℕ, ◌≡◌, List}, Option.{option_map}};
+ghost use Rattle.rm_catalog.specs.{Keys.{datafile}, Rules.{HasDatabase, IsCatalog}, declared.record.Record.{Record}};
 ghost use Rattle.rm_history.specs.World.{file_of};
 ghost use Rattle.rm_evidence.specs.Database.{created_by, world_of, IsSoundWorld};
 

@@ -1,12 +1,8 @@
 //! The evidence that a catalog, a store and what is in place give.
 ghost use Rattle.std.specs.Prelude.{◌≡◌, ◌≤◌, IfOk, IsErrOf};
 ghost use Rattle.rm_base.specs.Outside.{Rose};
-ghost use Rattle.rm_catalog.specs.Rules.{HasDatabase};
-ghost use Rattle.rm_catalog.specs.Trees.{nodes};
-ghost use Rattle.rm_evidence.specs.Gathered.{IsGathered};
-ghost use Rattle.rm_evidence.specs.Known.{FitsTree};
-ghost use Rattle.rm_evidence.specs.Place.{FitsPlace};
-ghost use Rattle.rm_evidence.specs.Seen.{IsSeen};
+ghost use Rattle.rm_catalog.specs.{Rules.{HasDatabase}, Trees.{nodes}};
+ghost use Rattle.rm_evidence.specs.{Gathered.{IsGathered}, Known.{FitsTree}, Place.{FitsPlace}, Seen.{IsSeen}};
 
 use crate::database::dbid_of;
 use crate::evidence::{Evidence, InPlace};

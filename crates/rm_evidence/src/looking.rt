@@ -1,11 +1,8 @@
 //! What the store has of a record that counts as available.
 ghost use Rattle.std.specs.Prelude.{◌≡◌, ◌≤◌, IfOk, IsErrOf};
 ghost use Rattle.rm_base.specs.Outside.{Rose};
-ghost use Rattle.rm_evidence.specs.Database.{database_in};
-ghost use Rattle.rm_evidence.specs.Names.{log_name};
-ghost use Rattle.rm_evidence.specs.Objects.{IsLogObject, IsPieceObject, IsSetObject};
-ghost use Rattle.rm_evidence.specs.Seen.{IsSeen};
-ghost use Rattle.rm_evidence.specs.Taking.{IsTold};
+ghost use Rattle.rm_evidence.specs.{Database.{database_in}, Names.{log_name}, Objects.{IsLogObject, IsPieceObject, IsSetObject}};
+ghost use Rattle.rm_evidence.specs.{Seen.{IsSeen}, Taking.{IsTold}};
 
 use crate::gathering::EvidenceFault;
 use crate::{log_name, log_object, piece_object, set_object};

@@ -1,7 +1,6 @@
 //! The names under which objects stand.
 ghost use Rattle.std.specs.Prelude.{◌≡◌, ◌<◌, ◌^◌, IfOk};
-ghost use Rattle.rm_evidence.specs.Names.{log_name, object_id, piece_name, roll_name, set_name, site_name};
-ghost use Rattle.rm_evidence.specs.Taking.{HasId};
+ghost use Rattle.rm_evidence.specs.{Names.{log_name, object_id, piece_name, roll_name, set_name, site_name}, Taking.{HasId}};
 
 use rm_base::{NoMemory, Text};
 use rm_catalog::Record;

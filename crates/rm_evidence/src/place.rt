@@ -2,9 +2,7 @@
 ghost use Rattle.std.specs.Prelude.{◌≡◌, ◌↔◌, All, IfOk, IsTrue, map};
 ghost use Rattle.rm_catalog.specs.Rules.{HasDatabase};
 ghost use Rattle.rm_piece.specs.Valid.{IsPiece, IsRow};
-ghost use Rattle.rm_evidence.specs.Gathered.{placed, placed_piece};
-ghost use Rattle.rm_evidence.specs.Known.{FitsLog, FitsPiece};
-ghost use Rattle.rm_evidence.specs.Place.{FitsPlace, placed_evidence};
+ghost use Rattle.rm_evidence.specs.{Gathered.{placed, placed_piece}, Known.{FitsLog, FitsPiece}, Place.{FitsPlace, placed_evidence}};
 
 use crate::database::dbid_of;
 use crate::evidence::{Evidence, InPlace};

@@ -1,9 +1,7 @@
 //! What one record adds to the evidence.
 ghost use Rattle.std.specs.Prelude.{◌≡◌, ◌≤◌, ◌∷◌, [], OnOk, IsErrOf, map};
 ghost use Rattle.rm_base.specs.Outside.{Rose};
-ghost use Rattle.rm_evidence.specs.Database.{database_in};
-ghost use Rattle.rm_evidence.specs.Seen.{IsSeen};
-ghost use Rattle.rm_evidence.specs.Taking.{Adds, with_piece, with_pieces};
+ghost use Rattle.rm_evidence.specs.{Database.{database_in}, Seen.{IsSeen}, Taking.{Adds, with_piece, with_pieces}};
 ghost use Rattle.rm_evidence.specs.Telling.{with_artefact, with_told};
 
 use crate::evidence::Evidence;

@@ -1,8 +1,7 @@
 //! What the store has of several records, looked at side by side.
 ghost use Rattle.std.specs.Prelude.{◌≡◌, ◌≤◌, ◌<◌, ◌++◌, IfOk, IfSome, IsErrOf, OnOk, length, map};
 ghost use Rattle.rm_base.specs.Outside.{Rose};
-ghost use Rattle.rm_evidence.specs.Database.{database_in};
-ghost use Rattle.rm_evidence.specs.Telling.{AreTold, StandUnder, StandsUnder, TellAll, Tells, TellsAt};
+ghost use Rattle.rm_evidence.specs.{Database.{database_in}, Telling.{AreTold, StandUnder, StandsUnder, TellAll, Tells, TellsAt}};
 
 use crate::gathering::EvidenceFault;
 use crate::looking::{log_told, piece_told, set_told};

@@ -2,17 +2,10 @@
 use Rattle.std.proofs.Common.{◌≡◌, ◌≢◌, ◌<◌, ◌≤◌, ◌+◌, ◌∙◌, ◌==◌, ◌&&◌, inl, inr, nat_le, nat_lt, ℕ, List, [], ◌∷◌, ◌++◌, Some, None, Bool, true, false, cond, refl, ap, sym, subst, arith, All, Contains, filter}
 use Rattle.std.proofs.lemmas.Bool.{and_from, and_parts, and_right, cases_lt, eq-eqb, eqb-true, le-leb, leb-true, lt-ltb, ltb-true, ne_eqb}
 use Rattle.std.proofs.lemmas.List.Elements.{All-head, All-tail, All-weaker, Contains-get_or, filter-append}
-use Rattle.rm_base.specs.Content.{zero_block}
-use Rattle.rm_base.specs.declared.block.Change.{Change}
-use Rattle.rm_history.specs.declared.tree.Incarnation.{Incarnation}
-use Rattle.rm_history.specs.declared.world.World.{World}
-use Rattle.rm_history.specs.Agrees.{LogAgrees, is_of}
-use Rattle.rm_history.specs.Artefacts.{Log}
-use Rattle.rm_history.specs.State.{concerns, later, latest, row_of, state}
-use Rattle.rm_history.specs.Tree.{IsThere, end_of, owner, with_end}
-use Rattle.rm_history.specs.World.{creation_of}
-use Rattle.rm_history.proofs.Ends.{ends-risen}
-use Rattle.rm_history.proofs.Growth.{concerns-later}
+use Rattle.rm_base.specs.{Content.{zero_block}, declared.block.Change.{Change}}
+use Rattle.rm_history.specs.{Agrees.{LogAgrees, is_of}, Artefacts.{Log}, State.{concerns, later, latest, row_of, state}}
+use Rattle.rm_history.specs.{Tree.{IsThere, end_of, owner, with_end}, World.{creation_of}, declared.tree.Incarnation.{Incarnation}}
+use Rattle.rm_history.{specs.declared.world.World.{World}, proofs.{Ends.{ends-risen}, Growth.{concerns-later}}}
 use Rattle.rm_history.proofs.States.{concerns-parts, concerns-from}
 
 -- each change lies below the end of its incarnation

@@ -1,11 +1,11 @@
 -- An incarnation more changes nothing of those that were there.
-use Rattle.std.proofs.Common.{◌≡◌, ◌<◌, ◌≤◌, ◌+◌, ◌-◌, ◌∙◌, inl, inr, ℕ, zero, suc, List, [], ◌∷◌, ◌++◌, Some, None, cond, refl, ap, sym, subst, arith, length, length-append, slice_get}
 use Rattle.std.specs.Option.{option_map_or}
+use Rattle.std.proofs.Common.{◌≡◌, ◌<◌, ◌≤◌, ◌+◌, ◌-◌, ◌∙◌, inl, inr, ℕ, zero, suc, List, [], ◌∷◌, ◌++◌, Some, None, cond, refl, ap, sym, subst, arith, length, length-append, slice_get}
 use Rattle.std.proofs.lemmas.Bool.{ne_eqb, cases_lt}
-use Rattle.rm_history.specs.declared.tree.Incarnation.{Incarnation}
 use Rattle.rm_history.specs.Tree.{HasParentsBelow, IsThere, IsTree, incarnation, owner, parent_of, reset_of, end_of, branched, with_branch}
-use Rattle.rm_base.proofs.Members.{slice_get-front}
+use Rattle.rm_history.specs.declared.tree.Incarnation.{Incarnation}
 use Rattle.rm_history.proofs.Owners.{parent-none, owner-none, owner-here, owner-above, owner-cases}
+use Rattle.rm_base.proofs.Members.{slice_get-front}
 
 slice_get-last : (xs : List Incarnation) (x : Incarnation) (k : ℕ) → k ≡ length xs → slice_get (xs ++ x ∷ []) k ≡ Some x
 slice_get-last [] x zero is = refl

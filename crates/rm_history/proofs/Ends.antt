@@ -1,11 +1,9 @@
 -- Another end of an incarnation is its end from then on, and changes no parent, no resetlogs SCN, no other end and no owner.
-use Rattle.std.proofs.Common.{◌≡◌, ◌≢◌, ◌<◌, ◌≤◌, ◌-◌, ◌∙◌, nat_le, inl, inr, ℕ, zero, suc, List, [], ◌∷◌, Option, Some, None, Bool, true, false, cond, unwrap_or, find, refl, ap, sym, subst, arith, eqb, length, slice_get, slice_set, get_or-set_same, get_or-set_other}
 use Rattle.std.specs.Option.{option_map_or}
-use Rattle.std.proofs.lemmas.Bool.{cases_eq, ne_eqb}
-use Rattle.std.proofs.lemmas.List.{length-set}
-use Rattle.rm_history.specs.declared.tree.Incarnation.{Incarnation}
+use Rattle.std.proofs.Common.{◌≡◌, ◌≢◌, ◌<◌, ◌≤◌, ◌-◌, ◌∙◌, nat_le, inl, inr, ℕ, zero, suc, List, [], ◌∷◌, Option, Some, None, Bool, true, false, cond, unwrap_or, find, refl, ap, sym, subst, arith, eqb, length, slice_get, slice_set, get_or-set_same, get_or-set_other}
+use Rattle.std.proofs.lemmas.{Bool.{cases_eq, ne_eqb}, List.{length-set}}
 use Rattle.rm_history.specs.Tree.{HasParentsBelow, IsThere, IsTree, owner, ancestors, parent_of, reset_of, end_of, path, incarnation, with_end}
-use Rattle.rm_history.proofs.Owners.{incarnation-there}
+use Rattle.rm_history.{specs.declared.tree.Incarnation.{Incarnation}, proofs.Owners.{incarnation-there}}
 
 -- an item that is replaced by one with the same number leaves the numbers as they were
 set-alike : (number : Incarnation → ℕ) (tree : List Incarnation) (k i : ℕ) (new : Incarnation) → option_map_or number (slice_get tree k) 0 ≡ number new → option_map_or number (slice_get (slice_set tree k new) i) 0 ≡ option_map_or number (slice_get tree i) 0

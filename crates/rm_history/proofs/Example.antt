@@ -1,26 +1,14 @@
 -- The premises of the laws can be met.
 use Rattle.std.proofs.Common.{rules, Bool, true, false, cond, Option, zero, suc, ◌-◌, ◌==◌, nat_lt, eqb, slice_get, ◌≡◌, ◌<◌, ◌≤◌, ◌∙◌, inl, inr, ℕ, [], ◌∷◌, ◌++◌, Some, None, refl, sym, subst, arith, Contains}
-use Rattle.std.proofs.lemmas.Bool.{and_from, le-leb, lt-ltb, eq-eqb}
-use Rattle.std.proofs.lemmas.Grind.{common_steps}
-use Rattle.rm_base.specs.Content.{padded, zero_block}
-use Rattle.rm_base.specs.declared.block.Block.{Block}
-use Rattle.rm_base.specs.declared.block.Change.{Change}
-use Rattle.rm_base.specs.declared.block.Row.{Row}
-use Rattle.rm_history.specs.declared.world.Datafile.{Datafile}
-use Rattle.rm_history.specs.Threads.{IsEnabled}
-use Rattle.rm_history.specs.Tree.{IsTree, owner, parent_of, reset_of}
-use Rattle.rm_history.specs.World.{file_of}
-use Rattle.rm_history.specs.History.{IsChange, IsHistory}
-use Rattle.rm_history.specs.Agrees.{IsRow, BaseAgrees, LogAgrees}
-use Rattle.rm_history.proofs.Histories.{IsHistory-push_above}
+use Rattle.std.proofs.lemmas.{Bool.{and_from, le-leb, lt-ltb, eq-eqb}, Grind.{common_steps}}
+use Rattle.rm_base.specs.{Content.{padded, zero_block}, declared.block.{Block.{Block}, Change.{Change}, Row.{Row}}}
 use Rattle.rm_base.proofs.Members.{in-front, none-in, first-or-rest}
-use Rattle.rm_history.proofs.Owners.{owner-first}
-use Rattle.rm_history.proofs.Enabled.{unswitched}
-use Rattle.rm_history.specs.Evidence.{Agrees}
+use Rattle.rm_history.specs.{Threads.{IsEnabled}, Tree.{IsTree, owner, parent_of, reset_of}, World.{file_of}, History.{IsChange, IsHistory}}
+use Rattle.rm_history.specs.{Agrees.{IsRow, BaseAgrees, LogAgrees}, Evidence.{Agrees}}
 use Rattle.rm_history.specs.Known.{HasRow, in_base, in_level1, Seen, by_row, by_log, by_creation, Quiet, by_absence, by_logs, IsGreatest, Determined}
-use Rattle.rm_history.specs.FirstGap.{IsTarget, HasGap, IsFirstGap}
-use Rattle.rm_history.specs.Unknown.{IsWorld}
-use Rattle.rm_history.specs.Example.{world, change, history, copy, log, evidence}
+use Rattle.rm_history.specs.{FirstGap.{IsTarget, HasGap, IsFirstGap}, Unknown.{IsWorld}}
+use Rattle.rm_history.specs.{Example.{world, change, history, copy, log, evidence}, declared.world.Datafile.{Datafile}}
+use Rattle.rm_history.proofs.{Histories.{IsHistory-push_above}, Owners.{owner-first}, Enabled.{unswitched}}
 
 -- what holds of the only item holds of each
 pub only : {X : Type 0} (P : X → Type 0) (x : X) → P x → (y : X) → Contains (x ∷ []) y → P y

@@ -1,30 +1,14 @@
 -- The change that may stand at a gap, and the thread that may have made it.
 use Rattle.std.proofs.Common.{◌≡◌, ◌<◌, ◌≤◌, ◌∙◌, ◌⊎◌, ◌==◌, ◌&&◌, inl, inr, nat_lt, ℕ, zero, suc, List, [], ◌∷◌, ◌++◌, true, false, refl, ap, sym, subst, arith, Contains}
-use Rattle.std.proofs.lemmas.Bool.{cases_Bool, cases_lt}
-use Rattle.std.proofs.lemmas.Bool.Decides.{nat_tests}
-use Rattle.rm_base.specs.Content.{zero_block}
-use Rattle.rm_base.specs.declared.block.Block.{Block}
-use Rattle.rm_base.specs.declared.block.Change.{Change}
-use Rattle.rm_history.specs.declared.world.World.{World}
-use Rattle.rm_history.specs.Artefacts.{Log}
-use Rattle.rm_history.specs.Threads.{IsEnabled}
-use Rattle.rm_history.specs.Tree.{IsThere, owner, reset_of}
-use Rattle.rm_history.specs.History.{IsChange, IsHistory, SamePlace}
-use Rattle.rm_history.specs.State.{concerns}
-use Rattle.rm_history.specs.Agrees.{is_of}
-use Rattle.rm_history.proofs.Growth.{state-push_top}
-use Rattle.rm_history.proofs.Histories.{IsHistory-push}
-use Rattle.rm_history.proofs.Owners.{owner-there, owner-begun, owner-owner}
-use Rattle.rm_history.proofs.States.{concerns-from}
-use Rattle.rm_history.proofs.Enabled.{enabled-or-not}
-use Rattle.rm_history.specs.Evidence.{Evidence, Agrees}
-use Rattle.rm_history.specs.Known.{HasChange, Seen, by_log, by_creation, Holds, HasLog, Quiet, by_logs, IsGap}
-use Rattle.rm_history.specs.FirstGap.{IsTarget}
-use Rattle.rm_history.specs.Unknown.{IsWorld, without, changed, IsPossible, LacksLog, CouldBe}
-use Rattle.rm_base.proofs.Lists.{find_passing}
-use Rattle.rm_history.proofs.Logs.{is_of-parts, is_of-from}
-use Rattle.rm_history.proofs.Removal.{removed, removed-top}
-use Rattle.rm_history.proofs.Unquiet.{unquiet-agrees}
+use Rattle.std.proofs.lemmas.Bool.{cases_Bool, cases_lt, Decides.{nat_tests}}
+use Rattle.rm_base.{specs.{Content.{zero_block}, declared.block.{Block.{Block}, Change.{Change}}}, proofs.Lists.{find_passing}}
+use Rattle.rm_history.specs.{Artefacts.{Log}, Threads.{IsEnabled}, Tree.{IsThere, owner, reset_of}}
+use Rattle.rm_history.specs.{History.{IsChange, IsHistory, SamePlace}, State.{concerns}, Agrees.{is_of}, Evidence.{Evidence, Agrees}}
+use Rattle.rm_history.specs.{Known.{HasChange, Seen, by_log, by_creation, Holds, HasLog, Quiet, by_logs, IsGap}, FirstGap.{IsTarget}}
+use Rattle.rm_history.specs.{Unknown.{IsWorld, without, changed, IsPossible, LacksLog, CouldBe}, declared.world.World.{World}}
+use Rattle.rm_history.proofs.{Growth.{state-push_top}, Histories.{IsHistory-push}, Owners.{owner-there, owner-begun, owner-owner}}
+use Rattle.rm_history.proofs.{States.{concerns-from}, Enabled.{enabled-or-not}, Logs.{is_of-parts, is_of-from}}
+use Rattle.rm_history.proofs.{Removal.{removed, removed-top}, Unquiet.{unquiet-agrees}}
 
 exists-parts : (creation s owned inc : ℕ) → (nat_lt creation s && (owned == inc)) ≡ true → (creation < s) × (owned ≡ inc)
 exists-parts creation s owned inc is = grind (arith, nat_tests)

@@ -1,24 +1,13 @@
 -- A thread that went.
-use Rattle.std.proofs.Common.{◌≡◌, ◌≤◌, ◌∙◌, inl, inr, ℕ, [], ◌∷◌, true, false, refl, sym, subst, arith, Contains}
-use Rattle.std.proofs.lemmas.Bool.{cases_eq}
-use Rattle.rm_base.specs.Content.{padded, zero_block}
-use Rattle.rm_base.specs.declared.block.Block.{Block}
-use Rattle.rm_base.specs.declared.block.Change.{Change}
-use Rattle.rm_base.specs.declared.block.Row.{Row}
+use Rattle.std.proofs.{Common.{◌≡◌, ◌≤◌, ◌∙◌, inl, inr, ℕ, [], ◌∷◌, true, false, refl, sym, subst, arith, Contains}, lemmas.Bool.{cases_eq}}
+use Rattle.rm_base.specs.{Content.{padded, zero_block}, declared.block.{Block.{Block}, Change.{Change}, Row.{Row}}}
 use Rattle.rm_base.proofs.Members.{in-front, behind, none-in, first-or-rest}
-use Rattle.rm_history.specs.declared.world.Datafile.{Datafile}
-use Rattle.rm_history.specs.Agrees.{BaseAgrees, LogAgrees}
-use Rattle.rm_history.specs.History.{IsHistory}
-use Rattle.rm_history.specs.Threads.{IsEnabled, applies, is_enabled}
-use Rattle.rm_history.specs.Tree.{owner}
-use Rattle.rm_history.proofs.Histories.{IsHistory-with_switch}
-use Rattle.rm_history.proofs.Owners.{owner-first}
-use Rattle.rm_history.proofs.Worlds.{BaseAgrees-with_switch}
-use Rattle.rm_history.specs.Evidence.{Agrees}
-use Rattle.rm_history.specs.Example.{world, change, history, copy, log, disabled, smaller, last_log, whole}
+use Rattle.rm_history.specs.{Agrees.{BaseAgrees, LogAgrees}, History.{IsHistory}, Threads.{IsEnabled, applies, is_enabled}, Tree.{owner}}
+use Rattle.rm_history.specs.{Evidence.{Agrees}, Example.{world, change, history, copy, log, disabled, smaller, last_log, whole}}
 use Rattle.rm_history.specs.FirstGap.{IsTarget}
 use Rattle.rm_history.specs.Known.{Determined, HasLog, HasRow, Quiet, Seen, by_creation, by_log, by_logs, by_row, in_base, in_level1}
-use Rattle.rm_history.proofs.Example.{evidence-agrees, file-is, history-is, only, target}
+use Rattle.rm_history.{specs.declared.world.Datafile.{Datafile}, proofs.{Histories.{IsHistory-with_switch}, Owners.{owner-first}}}
+use Rattle.rm_history.proofs.{Worlds.{BaseAgrees-with_switch}, Example.{evidence-agrees, file-is, history-is, only, target}}
 
 both : {X : Type 0} (P : X → Type 0) (x y : X) → P x → P y → (z : X) → Contains (x ∷ y ∷ []) z → P z
 both P x y one two z held = elim (first-or-rest x (y ∷ []) z held) [

@@ -1,17 +1,10 @@
 -- A history with a change more.
 use Rattle.std.proofs.Common.{◌≡◌, ◌<◌, ◌≤◌, ◌∙◌, inl, inr, ℕ, List, [], ◌∷◌, ◌++◌, Bool, true, false, cond, refl, ap, sym, subst, arith, Contains, filter}
-use Rattle.std.proofs.lemmas.Bool.{cases_Bool, cases_lt}
-use Rattle.std.proofs.lemmas.List.Elements.{Contains-append_left, Contains-push, Contains-push_cases}
-use Rattle.rm_base.specs.declared.block.Change.{Change}
-use Rattle.rm_base.specs.declared.block.Row.{Row}
+use Rattle.std.proofs.lemmas.{Bool.{cases_Bool, cases_lt}, List.Elements.{Contains-append_left, Contains-push, Contains-push_cases}}
+use Rattle.rm_base.{specs.declared.block.{Change.{Change}, Row.{Row}}, proofs.Members.{AllPairs-front, AllPairs-last}}
+use Rattle.rm_history.specs.{Tree.{owner}, World.{creation_of}, History.{IsHistory, SamePlace}, State.{concerns, state, IsState}}
+use Rattle.rm_history.specs.{Artefacts.{Base, Level1, Log}, Agrees.{IsRow, IsBelow, BaseAgrees, Level1Agrees, LogAgrees, is_of}}
 use Rattle.rm_history.specs.declared.world.World.{World}
-use Rattle.rm_history.specs.Tree.{owner}
-use Rattle.rm_history.specs.World.{creation_of}
-use Rattle.rm_history.specs.History.{IsHistory, SamePlace}
-use Rattle.rm_history.specs.State.{concerns, state, IsState}
-use Rattle.rm_history.specs.Artefacts.{Base, Level1, Log}
-use Rattle.rm_history.specs.Agrees.{IsRow, IsBelow, BaseAgrees, Level1Agrees, LogAgrees, is_of}
-use Rattle.rm_base.proofs.Members.{AllPairs-front, AllPairs-last}
 use Rattle.rm_history.proofs.States.{concerns-parts, concerns-from, concerns-one_place, concerns-risen, state-held, state-one}
 use Rattle.rm_history.proofs.Histories.{state-push_other}
 

@@ -1,9 +1,7 @@
 -- The SCN above all that an artefact shows.
-use Rattle.std.proofs.Common.{◌≡◌, ◌<◌, ◌≤◌, ◌+◌, ◌⊎◌, inl, inr, ℕ, List, [], ◌∷◌, refl, subst, arith, Contains}
-use Rattle.std.proofs.lemmas.Bool.{cases_lt}
-use Rattle.rm_base.specs.declared.block.Row.{Row}
+use Rattle.std.proofs.{Common.{◌≡◌, ◌<◌, ◌≤◌, ◌+◌, ◌⊎◌, inl, inr, ℕ, List, [], ◌∷◌, refl, subst, arith, Contains}, lemmas.Bool.{cases_lt}}
+use Rattle.rm_base.{specs.declared.block.Row.{Row}, proofs.Members.{in-front, behind, none-in, first-or-rest}}
 use Rattle.rm_history.specs.Artefacts.{high_of}
-use Rattle.rm_base.proofs.Members.{in-front, behind, none-in, first-or-rest}
 
 -- it is the checkpoint at least
 pub high-least : (checkpoint : ℕ) (rows : List Row) → checkpoint ≤ high_of checkpoint rows

@@ -1,16 +1,10 @@
 -- What stays true of a history where the database grows, and where the history does.
 use Rattle.std.proofs.Common.{◌≡◌, ◌<◌, ◌≤◌, ◌-◌, ◌∙◌, inl, inr, ◌&&◌, nat_lt, ℕ, zero, suc, List, [], ◌∷◌, ◌++◌, Option, Some, None, Bool, true, false, cond, refl, ap, sym, subst, arith, eqb, All, Contains, slice_get}
-use Rattle.std.proofs.lemmas.List.Elements.{All-contains, Contains-get_or, Contains-push_cases}
-use Rattle.std.proofs.lemmas.List.Quantifiers.{all_pairs_push}
+use Rattle.std.proofs.lemmas.List.{Elements.{All-contains, Contains-get_or, Contains-push_cases}, Quantifiers.{all_pairs_push}}
 use Rattle.rm_base.specs.declared.block.Change.{Change}
-use Rattle.rm_history.specs.declared.world.Datafile.{Datafile}
-use Rattle.rm_history.specs.declared.world.Switch.{Switch}
-use Rattle.rm_history.specs.declared.world.World.{World}
-use Rattle.rm_history.specs.Tree.{IsThere, with_end}
-use Rattle.rm_history.specs.Threads.{applies}
-use Rattle.rm_history.specs.World.{file_of, with_tree, with_file, with_switch}
-use Rattle.rm_history.specs.History.{IsChange, IsHistory, SamePlace}
-use Rattle.rm_history.specs.State.{concerns, later, latest, row_of, state}
+use Rattle.rm_history.specs.{Tree.{IsThere, with_end}, Threads.{applies}, World.{file_of, with_tree, with_file, with_switch}}
+use Rattle.rm_history.specs.{History.{IsChange, IsHistory, SamePlace}, State.{concerns, later, latest, row_of, state}}
+use Rattle.rm_history.specs.declared.world.{Datafile.{Datafile}, Switch.{Switch}, World.{World}}
 use Rattle.rm_history.proofs.Ends.{owner-with_end, reset_of-with_end, IsThere-with_end}
 use Rattle.rm_history.proofs.Enabled.{IsEnabled-with_switch, IsEnabled-with_tree}
 

@@ -1,14 +1,8 @@
 -- A state from what happened at its version.
 use Rattle.std.proofs.Common.{◌≡◌, ◌<◌, ◌≤◌, ◌∙◌, ◌⊎◌, inl, inr, ℕ, List, true, ap, sym, arith, Contains}
-use Rattle.rm_base.specs.Content.{zero_block}
-use Rattle.rm_base.specs.declared.block.Block.{Block}
-use Rattle.rm_base.specs.declared.block.Change.{Change}
-use Rattle.rm_base.specs.declared.block.Row.{Row}
+use Rattle.rm_base.specs.{Content.{zero_block}, declared.block.{Block.{Block}, Change.{Change}, Row.{Row}}}
+use Rattle.rm_history.specs.{Tree.{owner}, World.{creation_of}, History.{IsHistory}, State.{concerns, state, IsState}}
 use Rattle.rm_history.specs.declared.world.World.{World}
-use Rattle.rm_history.specs.Tree.{owner}
-use Rattle.rm_history.specs.World.{creation_of}
-use Rattle.rm_history.specs.History.{IsHistory}
-use Rattle.rm_history.specs.State.{concerns, state, IsState}
 use Rattle.rm_history.proofs.States.{Concerns, concerns-parts, concerns-from, concerns-risen, state-held, state-one}
 
 -- the change is one of the block at (m, g)

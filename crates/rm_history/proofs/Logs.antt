@@ -1,10 +1,8 @@
 -- What a log that agrees with a history has of it.
 use Rattle.std.proofs.Common.{◌≡◌, ◌<◌, ◌≤◌, ◌==◌, ◌&&◌, nat_lt, nat_le, ℕ, List, true, sym, subst, arith, Contains}
 use Rattle.std.proofs.lemmas.Bool.Decides.{nat_tests}
-use Rattle.rm_base.specs.declared.block.Change.{Change}
-use Rattle.rm_history.specs.Artefacts.{Log}
-use Rattle.rm_history.specs.Agrees.{LogAgrees, is_of}
-use Rattle.rm_base.proofs.Lists.{filter_from, filter_to}
+use Rattle.rm_base.{specs.declared.block.Change.{Change}, proofs.Lists.{filter_from, filter_to}}
+use Rattle.rm_history.specs.{Artefacts.{Log}, Agrees.{LogAgrees, is_of}}
 
 -- a change of the log's incarnation, thread and range, by its parts
 pub record IsOf (a : Log) (c : Change) : Type 0 where

@@ -1,23 +1,15 @@
 -- The order in which a history lists its changes.
-use Rattle.std.proofs.Common.{◌≡◌, ◌∙◌, ◌<◌, ◌⊎◌, ◌==◌, ◌&&◌, ◌||◌, nat_lt, inl, inr, ℕ, suc, Bool, true, false, cond, List, [], ◌∷◌, refl, ap, sym, subst, arith, slice_index_or, Contains, All, AllPairs, filter}
 use Rattle.std.specs.Prelude.{◌↔◌}
-use Rattle.std.proofs.lemmas.Bool.{cases_Bool}
-use Rattle.std.proofs.lemmas.Bool.Decides.{nat_tests}
-use Rattle.std.proofs.lemmas.List.Elements.{Contains-get_or}
+use Rattle.std.proofs.Common.{◌≡◌, ◌∙◌, ◌<◌, ◌⊎◌, ◌==◌, ◌&&◌, ◌||◌, nat_lt, inl, inr, ℕ, suc, Bool, true, false, cond, List, [], ◌∷◌, refl, ap, sym, subst, arith, slice_index_or, Contains, All, AllPairs, filter}
+use Rattle.std.proofs.lemmas.{Bool.{cases_Bool, Decides.{nat_tests}}, List.Elements.{Contains-get_or}}
 use Rattle.std.proofs.lemmas.List.Kept.{AllPairs-cons, AllPairs-filter}
-use Rattle.rm_base.proofs.Lists.{filter_from, filter_to}
+use Rattle.rm_base.{specs.declared.block.{Change.{Change}, Row.{Row}}, proofs.Lists.{filter_from, filter_to}}
 use Rattle.rm_base.proofs.Members.{behind, first-or-rest, in-front, none-in}
-use Rattle.rm_base.specs.declared.block.Change.{Change}
-use Rattle.rm_base.specs.declared.block.Row.{Row}
-use Rattle.rm_history.specs.declared.world.World.{World}
 use Rattle.rm_history.specs.Artefacts.{Base, Level1, Log}
 use Rattle.rm_history.specs.Agrees.{BaseAgrees, ComesBefore, IsBelow, IsRow, Level1Agrees, LogAgrees, LogLists, is_of}
-use Rattle.rm_history.specs.Evidence.{Agrees, AgreesInAnyOrder, Evidence}
-use Rattle.rm_history.specs.History.{IsHistory, SameChanges, SamePlace}
-use Rattle.rm_history.specs.State.{state}
-use Rattle.rm_history.specs.Unknown.{IsOrdered}
-use Rattle.rm_history.proofs.Logs.{happened-listed, is_of-parts, listed-happened}
-use Rattle.rm_history.proofs.States.{state-members}
+use Rattle.rm_history.specs.{Evidence.{Agrees, AgreesInAnyOrder, Evidence}, History.{IsHistory, SameChanges, SamePlace}, State.{state}}
+use Rattle.rm_history.specs.{Unknown.{IsOrdered}, declared.world.World.{World}}
+use Rattle.rm_history.proofs.{Logs.{happened-listed, is_of-parts, listed-happened}, States.{state-members}}
 
 -- the first number is lower, or they are one and what follows is so
 abbrev Lower : ℕ → ℕ → Type 0 → Type 0

@@ -1,11 +1,9 @@
 -- The owner of an SCN, one step along the path.
-use Rattle.std.proofs.Common.{◌≡◌, ◌<◌, ◌≤◌, ◌-◌, ◌∙◌, ◌⊎◌, inl, inr, nat_le, ℕ, zero, suc, List, ◌∷◌, length, sym, subst, Option, Some, None, Bool, true, false, cond, unwrap_or, find, refl, ap, arith, eqb, slice_get, slice_index_or}
 use Rattle.std.specs.Option.{option_map_or}
-use Rattle.std.proofs.lemmas.Bool.{ne_eqb, cases_lt}
-use Rattle.std.proofs.lemmas.Bool.Decides.{nat_tests}
-use Rattle.std.proofs.lemmas.Option.{slice_get-get_or, slice_get_past}
-use Rattle.rm_history.specs.declared.tree.Incarnation.{Incarnation}
+use Rattle.std.proofs.Common.{◌≡◌, ◌<◌, ◌≤◌, ◌-◌, ◌∙◌, ◌⊎◌, inl, inr, nat_le, ℕ, zero, suc, List, ◌∷◌, length, sym, subst, Option, Some, None, Bool, true, false, cond, unwrap_or, find, refl, ap, arith, eqb, slice_get, slice_index_or}
+use Rattle.std.proofs.lemmas.{Bool.{ne_eqb, cases_lt, Decides.{nat_tests}}, Option.{slice_get-get_or, slice_get_past}}
 use Rattle.rm_history.specs.Tree.{HasParentsBelow, IsThere, owner, ancestors, parent_of, reset_of, end_of, path, incarnation}
+use Rattle.rm_history.specs.declared.tree.Incarnation.{Incarnation}
 
 -- steps beyond the number of i change nothing
 pub ancestors_enough : (tree : List Incarnation) → HasParentsBelow tree → (m n i : ℕ) → i ≤ m → i ≤ n → ancestors m tree i ≡ ancestors n tree i

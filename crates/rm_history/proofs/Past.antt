@@ -1,14 +1,8 @@
 -- A history that gains a change past the evidence.
-use Rattle.std.proofs.Common.{◌≡◌, ◌++◌, ◌∷◌, inl, inr, List, [], false, sym, Contains}
-use Rattle.std.proofs.lemmas.Bool.{cases_Bool}
+use Rattle.std.proofs.{Common.{◌≡◌, ◌++◌, ◌∷◌, inl, inr, List, [], false, sym, Contains}, lemmas.Bool.{cases_Bool}}
 use Rattle.rm_base.specs.declared.block.Change.{Change}
-use Rattle.rm_history.specs.declared.world.World.{World}
-use Rattle.rm_history.specs.Artefacts.{Log}
-use Rattle.rm_history.specs.History.{IsHistory}
-use Rattle.rm_history.specs.Agrees.{is_of}
-use Rattle.rm_history.proofs.Growth.{BaseAgrees-grown, Level1Agrees-grown, LogAgrees-grown}
-use Rattle.rm_history.specs.Evidence.{Evidence, Agrees}
-use Rattle.rm_history.specs.Growth.{IsPast}
+use Rattle.rm_history.specs.{Artefacts.{Log}, History.{IsHistory}, Agrees.{is_of}, Evidence.{Evidence, Agrees}, Growth.{IsPast}}
+use Rattle.rm_history.{specs.declared.world.World.{World}, proofs.Growth.{BaseAgrees-grown, Level1Agrees-grown, LogAgrees-grown}}
 use Rattle.rm_history.proofs.Logs.{is_of-parts}
 
 past-logs : (w : World) (e : Evidence) (c : Change) → IsPast w e c → (a : Log) → Contains e.logs a → is_of a c ≡ false

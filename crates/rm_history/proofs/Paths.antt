@@ -1,12 +1,11 @@
 -- The members of a path, and the segment ends on it.
-use Rattle.std.proofs.Common.{◌≡◌, ◌≢◌, ◌<◌, ◌≤◌, ◌↔◌, ◌∙◌, ◌||◌, inl, inr, ℕ, zero, suc, List, [], ◌∷◌, Option, Some, None, Bool, true, false, cond, refl, ap, sym, subst, arith, eqb, Contains, IsSome, IsTrue, is_some, option_map, ◌⊎◌}
 use Rattle.std.specs.List.{list_any}
+use Rattle.std.proofs.Common.{◌≡◌, ◌≢◌, ◌<◌, ◌≤◌, ◌↔◌, ◌∙◌, ◌||◌, inl, inr, ℕ, zero, suc, List, [], ◌∷◌, Option, Some, None, Bool, true, false, cond, refl, ap, sym, subst, arith, eqb, Contains, IsSome, IsTrue, is_some, option_map, ◌⊎◌}
 use Rattle.std.proofs.lemmas.Bool.{eq-eqb, ne_eqb, cases_eq, cases_Bool, both_ways, false_from_ne_true}
-use Rattle.rm_history.specs.declared.tree.Incarnation.{Incarnation}
-use Rattle.rm_history.specs.declared.tree.Standing.TheVariants.{Current, Parent, Orphan}
 use Rattle.rm_history.specs.Tree.{HasParentsBelow, IsProperAncestor, ancestors, parent_of, reset_of, path, is_on_path, item_before, segment_end, standing}
-use Rattle.rm_base.proofs.Members.{in-front, behind, none-in, first-or-rest}
+use Rattle.rm_history.specs.declared.tree.{Incarnation.{Incarnation}, Standing.TheVariants.{Current, Parent, Orphan}}
 use Rattle.rm_history.proofs.Owners.{path-step}
+use Rattle.rm_base.proofs.Members.{in-front, behind, none-in, first-or-rest}
 
 ancestors-below : (tree : List Incarnation) → HasParentsBelow tree → (most i j : ℕ) → Contains (ancestors most tree i) j → (0 < j) × (j ≤ i)
 ancestors-below tree below zero i j is = absurd (none-in j is)

@@ -1,23 +1,12 @@
 -- The history without the changes of a block that nothing shows.
 use Rattle.std.proofs.Common.{◌≡◌, ◌<◌, ◌≤◌, ◌∙◌, ◌&&◌, inl, inr, nat_lt, not, ℕ, List, Bool, false, true, refl, ap, sym, subst, arith, Contains}
-use Rattle.std.proofs.lemmas.Bool.{cases_Bool}
-use Rattle.std.proofs.lemmas.Bool.Decides.{nat_tests}
-use Rattle.std.proofs.lemmas.List.Kept.{AllPairs-filter}
-use Rattle.rm_base.specs.declared.block.Block.{Block}
-use Rattle.rm_base.specs.declared.block.Change.{Change}
-use Rattle.rm_base.specs.declared.block.Row.{Row}
-use Rattle.rm_history.specs.declared.world.World.{World}
-use Rattle.rm_history.specs.Tree.{owner}
-use Rattle.rm_history.specs.History.{IsHistory, SamePlace}
-use Rattle.rm_history.specs.State.{concerns}
-use Rattle.rm_history.specs.Artefacts.{Log}
-use Rattle.rm_history.specs.Agrees.{IsRow, IsBelow, LogAgrees, is_of}
-use Rattle.rm_history.proofs.States.{concerns-parts, state-held}
-use Rattle.rm_history.specs.Evidence.{Evidence, Agrees}
+use Rattle.std.proofs.lemmas.{Bool.{cases_Bool, Decides.{nat_tests}}, List.Kept.{AllPairs-filter}}
+use Rattle.rm_base.{specs.declared.block.{Block.{Block}, Change.{Change}, Row.{Row}}, proofs.Lists.{filter_from, filter_to, filter_filter}}
+use Rattle.rm_history.specs.{Tree.{owner}, History.{IsHistory, SamePlace}, State.{concerns}, Artefacts.{Log}}
+use Rattle.rm_history.specs.{Agrees.{IsRow, IsBelow, LogAgrees, is_of}, Evidence.{Evidence, Agrees}}
 use Rattle.rm_history.specs.Known.{HasChange, HasRow, in_base, in_level1, Seen, by_row, by_log, IsGreatest}
-use Rattle.rm_history.specs.Unknown.{is_untold, without, IsPossible}
-use Rattle.rm_base.proofs.Lists.{filter_from, filter_to, filter_filter}
-use Rattle.rm_history.proofs.Logs.{is_of-parts, happened-listed}
+use Rattle.rm_history.specs.{Unknown.{is_untold, without, IsPossible}, declared.world.World.{World}}
+use Rattle.rm_history.proofs.{States.{concerns-parts, state-held}, Logs.{is_of-parts, happened-listed}}
 use Rattle.rm_history.proofs.KnownStates.{IsAt, IsTop, state-stays, created-first, version-below}
 use Rattle.rm_history.proofs.Sound.{row-block, row-state, row-is, seen-state}
 

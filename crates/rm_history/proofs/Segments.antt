@@ -1,13 +1,10 @@
 -- Segments of a path: how far an artefact of a member may tell of the path, and where owners are the same.
-use Rattle.std.proofs.Common.{◌≡◌, ◌≢◌, ◌<◌, ◌≤◌, ◌∙◌, inl, inr, nat_le, max, ℕ, zero, suc, List, length, Option, Some, None, true, false, refl, ap, sym, subst, arith, Contains, is_some, ◌&&◌, nat_eq}
 use Rattle.std.specs.Option.{option_map_or}
-use Rattle.std.proofs.lemmas.Bool.{cases_eq, eq-eqb, ne_eqb, false_from_ne_true}
-use Rattle.std.proofs.lemmas.Bool.Decides.{nat_tests}
-use Rattle.rm_base.specs.Numbers.{last_scn}
-use Rattle.rm_history.specs.declared.tree.Incarnation.{Incarnation}
+use Rattle.std.proofs.Common.{◌≡◌, ◌≢◌, ◌<◌, ◌≤◌, ◌∙◌, inl, inr, nat_le, max, ℕ, zero, suc, List, length, Option, Some, None, true, false, refl, ap, sym, subst, arith, Contains, is_some, ◌&&◌, nat_eq}
+use Rattle.std.proofs.lemmas.Bool.{cases_eq, eq-eqb, ne_eqb, false_from_ne_true, Decides.{nat_tests}}
+use Rattle.rm_base.{specs.Numbers.{last_scn}, proofs.Members.{first-or-rest, in-front}}
 use Rattle.rm_history.specs.Tree.{HasParentsBelow, IsTree, IsThere, IsShared, owner, parent_of, reset_of, path, ancestors, segment_end, is_on_path, IsProperAncestor, is_within}
-use Rattle.rm_base.proofs.Members.{first-or-rest, in-front}
-use Rattle.rm_history.proofs.States.{both-hold}
+use Rattle.rm_history.{specs.declared.tree.Incarnation.{Incarnation}, proofs.States.{both-hold}}
 use Rattle.rm_history.proofs.Owners.{owner-owner, owner-above, path-step}
 use Rattle.rm_history.proofs.Paths.{path-below, segment_end-here, segment_end-above, segment_end-some, is_on_path-member}
 

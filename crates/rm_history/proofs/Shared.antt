@@ -1,9 +1,7 @@
 -- Where two paths part.
-use Rattle.std.proofs.Common.{◌≡◌, ◌≢◌, ◌<◌, ◌≤◌, ◌∙◌, inl, inr, ℕ, List, sym, arith, min}
-use Rattle.std.proofs.lemmas.Bool.{cases_lt}
+use Rattle.std.proofs.{Common.{◌≡◌, ◌≢◌, ◌<◌, ◌≤◌, ◌∙◌, inl, inr, ℕ, List, sym, arith, min}, lemmas.Bool.{cases_lt}}
 use Rattle.rm_base.specs.Numbers.{last_scn}
-use Rattle.rm_history.specs.declared.tree.Incarnation.{Incarnation}
-use Rattle.rm_history.specs.Tree.{HasParentsBelow, owner, parent_of, reset_of}
+use Rattle.rm_history.specs.{Tree.{HasParentsBelow, owner, parent_of, reset_of}, declared.tree.Incarnation.{Incarnation}}
 use Rattle.rm_history.proofs.Owners.{owner-here, owner-above, owner-below}
 
 -- Below `fork` the paths of i and j have the owners of those of a and b. From it on they have others.

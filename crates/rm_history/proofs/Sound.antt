@@ -1,19 +1,11 @@
 -- What the evidence tells is true of each history that agrees with it.
-use Rattle.std.proofs.Common.{◌≡◌, ◌<◌, ◌≤◌, ◌∙◌, inl, inr, ℕ, List, true, refl, ap, sym, subst, arith, Contains}
 use Rattle.std.specs.Option.{option_map_or}
-use Rattle.rm_base.specs.declared.block.Block.{Block}
-use Rattle.rm_base.specs.declared.block.Change.{Change}
-use Rattle.rm_base.specs.declared.block.Row.{Row}
-use Rattle.rm_history.specs.declared.world.World.{World}
-use Rattle.rm_history.specs.Threads.{IsEnabled}
-use Rattle.rm_history.specs.Tree.{owner}
-use Rattle.rm_history.specs.World.{blocks_of}
-use Rattle.rm_history.specs.History.{IsHistory}
-use Rattle.rm_history.specs.State.{concerns, state, IsState}
-use Rattle.rm_history.specs.Agrees.{IsRow, is_of}
-use Rattle.rm_history.proofs.States.{concerns-from, state-held}
-use Rattle.rm_history.specs.Evidence.{Evidence, Agrees}
+use Rattle.std.proofs.Common.{◌≡◌, ◌<◌, ◌≤◌, ◌∙◌, inl, inr, ℕ, List, true, refl, ap, sym, subst, arith, Contains}
+use Rattle.rm_base.specs.declared.block.{Block.{Block}, Change.{Change}, Row.{Row}}
+use Rattle.rm_history.specs.{Threads.{IsEnabled}, Tree.{owner}, World.{blocks_of}, History.{IsHistory}, State.{concerns, state, IsState}}
+use Rattle.rm_history.specs.{Agrees.{IsRow, is_of}, Evidence.{Evidence, Agrees}}
 use Rattle.rm_history.specs.Known.{HasRow, in_base, in_level1, Seen, by_row, by_log, by_creation, Quiet, by_absence, by_logs}
+use Rattle.rm_history.{specs.declared.world.World.{World}, proofs.States.{concerns-from, state-held}}
 use Rattle.rm_history.proofs.Logs.{is_of-parts, is_of-from, listed-happened, happened-listed}
 use Rattle.rm_history.proofs.KnownStates.{IsAt, Happened, IsTop, state-happened, happened-state}
 

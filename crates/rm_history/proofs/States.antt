@@ -1,19 +1,11 @@
 -- The last change of a block, and what it makes of it.
-use Rattle.std.proofs.Common.{◌≡◌, ◌<◌, ◌≤◌, ◌∙◌, ◌==◌, ◌&&◌, ◌⊎◌, ◌↔◌, inl, inr, nat_lt, ℕ, List, [], ◌∷◌, ◌++◌, Option, Some, None, Bool, true, false, cond, refl, ap, sym, subst, arith, Contains, AllPairs, slice_index_or}
 use Rattle.std.specs.Option.{option_map_or}
-use Rattle.std.proofs.lemmas.Bool.{eqb-true, eq-eqb, lt-ltb, cases_lt}
-use Rattle.std.proofs.lemmas.Bool.Decides.{nat_tests}
-use Rattle.std.proofs.lemmas.List.{get_or_default}
-use Rattle.rm_base.specs.Content.{zero_block}
-use Rattle.rm_base.specs.declared.block.Block.{Block}
-use Rattle.rm_base.specs.declared.block.Change.{Change}
-use Rattle.rm_base.specs.declared.block.Row.{Row}
-use Rattle.rm_history.specs.declared.world.World.{World}
-use Rattle.rm_history.specs.Tree.{owner}
-use Rattle.rm_history.specs.World.{creation_of}
-use Rattle.rm_history.specs.History.{IsHistory, SamePlace}
-use Rattle.rm_history.specs.State.{concerns, later, latest, last_change, row_of, state, IsState}
+use Rattle.std.proofs.Common.{◌≡◌, ◌<◌, ◌≤◌, ◌∙◌, ◌==◌, ◌&&◌, ◌⊎◌, ◌↔◌, inl, inr, nat_lt, ℕ, List, [], ◌∷◌, ◌++◌, Option, Some, None, Bool, true, false, cond, refl, ap, sym, subst, arith, Contains, AllPairs, slice_index_or}
+use Rattle.std.proofs.lemmas.{Bool.{eqb-true, eq-eqb, lt-ltb, cases_lt, Decides.{nat_tests}}, List.{get_or_default}}
+use Rattle.rm_base.specs.{Content.{zero_block}, declared.block.{Block.{Block}, Change.{Change}, Row.{Row}}}
 use Rattle.rm_base.proofs.Members.{in-front, behind, first-or-rest}
+use Rattle.rm_history.specs.{Tree.{owner}, World.{creation_of}, History.{IsHistory, SamePlace}}
+use Rattle.rm_history.specs.{State.{concerns, later, latest, last_change, row_of, state, IsState}, declared.world.World.{World}}
 
 -- a change of the list that passes, and above which none that passes lies
 pub record IsGreatest (p : Change → Bool) (h : List Change) (d : Change) : Type 0 where

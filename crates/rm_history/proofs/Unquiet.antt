@@ -1,21 +1,12 @@
 -- A history that gains a change at an address that is not quiet.
 use Rattle.std.proofs.Common.{◌≡◌, ◌<◌, ◌≤◌, ◌∙◌, inl, inr, ℕ, List, [], ◌∷◌, ◌++◌, false, refl, sym, subst, arith, Contains}
-use Rattle.std.proofs.lemmas.Bool.{cases_Bool, cases_lt}
-use Rattle.std.proofs.lemmas.List.Elements.{Contains-append_left, Contains-push_cases}
-use Rattle.rm_base.specs.declared.block.Change.{Change}
-use Rattle.rm_base.specs.declared.block.Row.{Row}
-use Rattle.rm_history.specs.declared.world.World.{World}
-use Rattle.rm_history.specs.Tree.{owner}
-use Rattle.rm_history.specs.History.{IsHistory}
-use Rattle.rm_history.specs.State.{concerns}
-use Rattle.rm_history.specs.Artefacts.{Level1, Log}
-use Rattle.rm_history.specs.Agrees.{IsRow, IsBelow, is_of, lists}
-use Rattle.rm_history.proofs.Growth.{IsHistory-front, row-grown, below-grown, LogAgrees-grown}
-use Rattle.rm_history.proofs.Histories.{state-push_other}
-use Rattle.rm_history.proofs.States.{concerns-parts, state-held}
-use Rattle.rm_history.specs.Evidence.{Evidence, Agrees}
-use Rattle.rm_history.specs.Known.{HasRow, in_base, in_level1, Quiet, by_row, by_absence}
-use Rattle.rm_history.proofs.KnownStates.{state-stays, created-first, version-below}
+use Rattle.std.proofs.lemmas.{Bool.{cases_Bool, cases_lt}, List.Elements.{Contains-append_left, Contains-push_cases}}
+use Rattle.rm_base.specs.declared.block.{Change.{Change}, Row.{Row}}
+use Rattle.rm_history.specs.{Tree.{owner}, History.{IsHistory}, State.{concerns}, Artefacts.{Level1, Log}}
+use Rattle.rm_history.specs.{Agrees.{IsRow, IsBelow, is_of, lists}, Evidence.{Evidence, Agrees}}
+use Rattle.rm_history.specs.{Known.{HasRow, in_base, in_level1, Quiet, by_row, by_absence}, declared.world.World.{World}}
+use Rattle.rm_history.proofs.{Growth.{IsHistory-front, row-grown, below-grown, LogAgrees-grown}, Histories.{state-push_other}}
+use Rattle.rm_history.proofs.{States.{concerns-parts, state-held}, KnownStates.{state-stays, created-first, version-below}}
 use Rattle.rm_history.proofs.Sound.{row-block, row-state, row-is}
 
 module _ (w : World) (h : List Change) (e : Evidence) (c : Change) (history : IsHistory w (h ++ c ∷ [])) (agrees : Agrees w h e) (unknown : ¬ Quiet w e c.file c.block c.inc c.scn) where

@@ -1,12 +1,8 @@
 -- What an artefact says of a history.
 use Rattle.std.specs.Prelude.{ℕ, ◌≡◌, ◌<◌, ◌≤◌, ◌↔◌, ◌⊎◌, ◌==◌, ◌&&◌, nat_le, nat_lt, Bool, true, false, List, Contains, AllPairs, filter}
 use Rattle.std.specs.List.{list_any}
-use Rattle.rm_base.specs.declared.block.Change.{Change}
-use Rattle.rm_base.specs.declared.block.Row.{Row}
-use Rattle.rm_history.specs.declared.world.World.{World}
-use Rattle.rm_history.specs.Artefacts.{Base, Level1, Log}
-use Rattle.rm_history.specs.State.{state}
-use Rattle.rm_history.specs.World.{blocks_of}
+use Rattle.rm_base.specs.declared.block.{Change.{Change}, Row.{Row}}
+use Rattle.rm_history.specs.{Artefacts.{Base, Level1, Log}, State.{state}, World.{blocks_of}, declared.world.World.{World}}
 
 -- one of the rows is of this block
 abbrev pub lists : List Row → ℕ → Bool

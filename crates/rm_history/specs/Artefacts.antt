@@ -1,7 +1,6 @@
 -- What is kept of a database: copies of its files, increments, and logs.
 use Rattle.std.specs.Prelude.{ℕ, ◌+◌, max, List, [], ◌∷◌}
-use Rattle.rm_base.specs.declared.block.Change.{Change}
-use Rattle.rm_base.specs.declared.block.Row.{Row}
+use Rattle.rm_base.specs.declared.block.{Change.{Change}, Row.{Row}}
 
 -- a copy of a datafile
 pub record Base : Type 0 where

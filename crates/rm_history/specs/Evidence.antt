@@ -1,9 +1,8 @@
 -- The artefacts that are at hand, and the histories that agree with all of them.
 use Rattle.std.specs.Prelude.{List, Contains}
 use Rattle.rm_base.specs.declared.block.Change.{Change}
+use Rattle.rm_history.specs.{Artefacts.{Base, Level1, Log}, Agrees.{BaseAgrees, Level1Agrees, LogAgrees, LogLists}}
 use Rattle.rm_history.specs.declared.world.World.{World}
-use Rattle.rm_history.specs.Artefacts.{Base, Level1, Log}
-use Rattle.rm_history.specs.Agrees.{BaseAgrees, Level1Agrees, LogAgrees, LogLists}
 
 pub record Evidence : Type 0 where
   pub bases : List Base

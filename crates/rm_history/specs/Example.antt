@@ -1,12 +1,8 @@
 -- A database of two threads, one of which lost its log.
 use Rattle.std.specs.Prelude.{ℕ, List, [], ◌∷◌, false}
-use Rattle.rm_base.specs.Content.{padded, zero_block}
-use Rattle.rm_base.specs.declared.block.Change.{Change}
-use Rattle.rm_history.specs.declared.world.Switch.{Switch}
+use Rattle.rm_base.specs.{Content.{padded, zero_block}, declared.block.Change.{Change}}
+use Rattle.rm_history.specs.{Artefacts.{Base, Log}, World.{with_switch}, Evidence.{Evidence}, declared.world.Switch.{Switch}}
 use Rattle.rm_history.specs.declared.world.World.{World}
-use Rattle.rm_history.specs.Artefacts.{Base, Log}
-use Rattle.rm_history.specs.World.{with_switch}
-use Rattle.rm_history.specs.Evidence.{Evidence}
 
 -- one incarnation from SCN 1 on, two threads, and a file of one block, created at 1
 abbrev pub world : World

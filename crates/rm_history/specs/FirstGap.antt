@@ -1,12 +1,8 @@
 -- The least block, of all files at an address, that is not determined.
 use Rattle.std.specs.Prelude.{ℕ, ◌≡◌, ◌<◌, ◌⊎◌, Some, true}
 use Rattle.rm_base.specs.declared.block.Block.{Block}
-use Rattle.rm_history.specs.declared.world.Datafile.{Datafile}
-use Rattle.rm_history.specs.declared.world.World.{World}
-use Rattle.rm_history.specs.Tree.{IsThere}
-use Rattle.rm_history.specs.World.{file_of, exists}
-use Rattle.rm_history.specs.Evidence.{Evidence}
-use Rattle.rm_history.specs.Known.{Determined, IsGap}
+use Rattle.rm_history.specs.{Tree.{IsThere}, World.{file_of, exists}, Evidence.{Evidence}, Known.{Determined, IsGap}}
+use Rattle.rm_history.specs.declared.world.{Datafile.{Datafile}, World.{World}}
 
 -- the file exists at (i, s) and has the block
 pub record IsTarget (w : World) (i s f b : ℕ) : Type 0 where

@@ -1,11 +1,7 @@
 -- A change that lies past the evidence.
 use Rattle.std.specs.Prelude.{◌≡◌, ◌≤◌, Contains}
 use Rattle.rm_base.specs.declared.block.Change.{Change}
-use Rattle.rm_history.specs.declared.world.World.{World}
-use Rattle.rm_history.specs.Artefacts.{Base, Level1, Log}
-use Rattle.rm_history.specs.Tree.{owner}
-use Rattle.rm_history.specs.Evidence.{Evidence}
-use Rattle.rm_history.specs.Known.{Holds}
+use Rattle.rm_history.specs.{Artefacts.{Base, Level1, Log}, Tree.{owner}, Evidence.{Evidence}, Known.{Holds}, declared.world.World.{World}}
 
 -- no copy or level 1 on whose path the change lies has a later checkpoint, and no log of its thread holds its address
 pub record IsPast (w : World) (e : Evidence) (c : Change) : Type 0 where

@@ -1,11 +1,8 @@
 -- The histories that a database may have had: lists of changes.
 use Rattle.std.specs.Prelude.{◌≡◌, ◌<◌, ◌≤◌, ◌↔◌, Some, List, Contains, AllPairs}
 use Rattle.rm_base.specs.declared.block.Change.{Change}
-use Rattle.rm_history.specs.declared.world.Datafile.{Datafile}
+use Rattle.rm_history.specs.{Threads.{IsEnabled}, Tree.{IsThere, reset_of, owner}, World.{file_of}, declared.world.Datafile.{Datafile}}
 use Rattle.rm_history.specs.declared.world.World.{World}
-use Rattle.rm_history.specs.Threads.{IsEnabled}
-use Rattle.rm_history.specs.Tree.{IsThere, reset_of, owner}
-use Rattle.rm_history.specs.World.{file_of}
 
 -- a change that a history of the database may have
 pub record IsChange (w : World) (c : Change) : Type 0 where

@@ -1,17 +1,8 @@
 -- What the evidence tells of one block: where its content is seen, where it was quiet, and what follows.
 use Rattle.std.specs.Prelude.{ℕ, ◌≡◌, ◌<◌, ◌≤◌, false, Some, Contains}
-use Rattle.rm_base.specs.Content.{zero_block}
-use Rattle.rm_base.specs.declared.block.Block.{Block}
-use Rattle.rm_base.specs.declared.block.Change.{Change}
-use Rattle.rm_base.specs.declared.block.Row.{Row}
-use Rattle.rm_history.specs.declared.world.Datafile.{Datafile}
-use Rattle.rm_history.specs.declared.world.World.{World}
-use Rattle.rm_history.specs.Agrees.{lists}
-use Rattle.rm_history.specs.Artefacts.{Base, Level1, Log}
-use Rattle.rm_history.specs.Threads.{IsEnabled}
-use Rattle.rm_history.specs.Tree.{owner}
-use Rattle.rm_history.specs.World.{file_of}
-use Rattle.rm_history.specs.Evidence.{Evidence}
+use Rattle.rm_base.specs.{Content.{zero_block}, declared.block.{Block.{Block}, Change.{Change}, Row.{Row}}}
+use Rattle.rm_history.specs.{Agrees.{lists}, Artefacts.{Base, Level1, Log}, Threads.{IsEnabled}, Tree.{owner}, World.{file_of}}
+use Rattle.rm_history.specs.{Evidence.{Evidence}, declared.world.{Datafile.{Datafile}, World.{World}}}
 
 -- a row of block b of file f, in an artefact of this incarnation and checkpoint
 pub data HasRow (e : Evidence) (f b : ℕ) : ℕ → ℕ → Row → Type 0 where

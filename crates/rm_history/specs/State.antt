@@ -1,12 +1,8 @@
 -- What a history makes of a block at each address.
 use Rattle.std.specs.Prelude.{ℕ, zero, suc, ◌≡◌, ◌+◌, ◌≤◌, ◌⊎◌, ◌==◌, ◌&&◌, nat_lt, if◌then◌else◌, Bool, true, Option, Some, None, List, [], ◌∷◌, Contains}
 use Rattle.std.specs.Option.{option_map_or}
-use Rattle.rm_base.specs.Content.{zero_block}
-use Rattle.rm_base.specs.declared.block.Change.{Change}
-use Rattle.rm_base.specs.declared.block.Row.{Row}
-use Rattle.rm_history.specs.declared.world.World.{World}
-use Rattle.rm_history.specs.Tree.{owner}
-use Rattle.rm_history.specs.World.{creation_of}
+use Rattle.rm_base.specs.{Content.{zero_block}, declared.block.{Change.{Change}, Row.{Row}}}
+use Rattle.rm_history.specs.{Tree.{owner}, World.{creation_of}, declared.world.World.{World}}
 
 -- the change is one of block b of file f, below s, at an address that the path of i owns
 abbrev pub concerns : World → ℕ → ℕ → ℕ → ℕ → Change → Bool

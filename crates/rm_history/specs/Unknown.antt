@@ -1,17 +1,9 @@
 -- The two histories behind a gap.
 use Rattle.std.specs.Prelude.{ℕ, ◌≡◌, ◌≤◌, ◌&&◌, nat_lt, not, Bool, Some, List, [], ◌∷◌, ◌++◌, filter}
-use Rattle.rm_base.specs.declared.block.Block.{Block}
-use Rattle.rm_base.specs.declared.block.Change.{Change}
-use Rattle.rm_history.specs.declared.world.Datafile.{Datafile}
-use Rattle.rm_history.specs.declared.world.World.{World}
-use Rattle.rm_history.specs.History.{IsHistory, SameChanges}
-use Rattle.rm_history.specs.State.{concerns, state}
-use Rattle.rm_history.specs.Threads.{IsEnabled}
-use Rattle.rm_history.specs.Tree.{IsTree, reset_of}
-use Rattle.rm_history.specs.World.{file_of}
-use Rattle.rm_history.specs.Evidence.{Evidence, Agrees, AgreesInAnyOrder}
-use Rattle.rm_history.specs.Known.{HasLog}
-use Rattle.rm_history.specs.FirstGap.{HasGap}
+use Rattle.rm_base.specs.declared.block.{Block.{Block}, Change.{Change}}
+use Rattle.rm_history.specs.{History.{IsHistory, SameChanges}, State.{concerns, state}, Threads.{IsEnabled}, Tree.{IsTree, reset_of}}
+use Rattle.rm_history.specs.{World.{file_of}, Evidence.{Evidence, Agrees, AgreesInAnyOrder}, Known.{HasLog}, FirstGap.{HasGap}}
+use Rattle.rm_history.specs.declared.world.{Datafile.{Datafile}, World.{World}}
 
 -- the incarnations are a tree, and each file was created at or above the resetlogs SCN of its incarnation
 pub record IsWorld (w : World) : Type 0 where

@@ -1,18 +1,12 @@
 //! What the evidence makes known, and what nobody could know from it.
 ghost use Rattle.std.specs.Prelude.{ℕ, ◌≡◌, List, [], ◌∷◌, ◌++◌, Contains, AllPairs};
-ghost use Rattle.rm_base.specs.Content.{padded};
-ghost use Rattle.rm_base.specs.declared.block.Block.{Block};
-ghost use Rattle.rm_base.specs.declared.block.Change.{Change};
-ghost use Rattle.rm_history.specs.declared.world.World.{World};
-ghost use Rattle.rm_history.specs.History.{IsHistory};
-ghost use Rattle.rm_history.specs.Agrees.{ComesBefore};
-ghost use Rattle.rm_history.specs.Artefacts.{Log};
-ghost use Rattle.rm_history.specs.Evidence.{Evidence, Agrees, AgreesInAnyOrder};
-ghost use Rattle.rm_history.specs.Known.{Determined};
+ghost use Rattle.rm_base.specs.{Content.{padded}, declared.block.{Block.{Block}, Change.{Change}}};
+ghost use Rattle.rm_history.specs.{History.{IsHistory}, Agrees.{ComesBefore}, Artefacts.{Log}};
+ghost use Rattle.rm_history.specs.{Evidence.{Evidence, Agrees, AgreesInAnyOrder}, Known.{Determined}};
 ghost use Rattle.rm_history.specs.FirstGap.{IsTarget, IsDetermined, HasGap, IsRecoverable, IsFirstGap};
 ghost use Rattle.rm_history.specs.Unknown.{IsWorld, IsKnown, IsKnownInAnyOrder, IsOrdered, IsUnknown, IsUnknownInAnyOrder};
-ghost use Rattle.rm_history.specs.Growth.{IsPast};
-ghost use Rattle.rm_history.specs.Example.{world, change, history, evidence, smaller, whole};
+ghost use Rattle.rm_history.specs.{Growth.{IsPast}, Example.{world, change, history, evidence, smaller, whole}};
+ghost use Rattle.rm_history.specs.declared.world.World.{World};
 
 /// What is determined is so in every history that agrees with the evidence.
 pub fn told_is_true()

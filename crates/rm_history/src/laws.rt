@@ -1,19 +1,13 @@
 //! What the definitions of the history mean.
 ghost use Rattle.std.specs.Prelude.{ℕ, ◌≡◌, ◌≢◌, ◌+◌, ◌<◌, ◌≤◌, ◌↔◌, ◌⊎◌, ◌∷◌, [], ◌++◌, length, List, Contains, Some, false, true};
-ghost use Rattle.rm_base.specs.declared.block.Change.{Change};
-ghost use Rattle.rm_base.specs.declared.block.Row.{Row};
-ghost use Rattle.rm_history.specs.declared.tree.Incarnation.{Incarnation};
-ghost use Rattle.rm_history.specs.declared.tree.Standing.TheVariants.{Current, Parent, Orphan};
-ghost use Rattle.rm_history.specs.declared.world.Datafile.{Datafile};
-ghost use Rattle.rm_history.specs.declared.world.Switch.{Switch};
-ghost use Rattle.rm_history.specs.declared.world.World.{World};
+ghost use Rattle.rm_base.specs.declared.block.{Change.{Change}, Row.{Row}};
 ghost use Rattle.rm_history.specs.Threads.{applies, is_enabled};
 ghost use Rattle.rm_history.specs.Tree.{HasBranchesWithin, IsThere, IsTree, IsProperAncestor, path, segment_end, standing, owner, parent_of, reset_of, end_of, with_end, with_branch};
-ghost use Rattle.rm_history.specs.World.{exists, with_tree, with_file, with_switch};
-ghost use Rattle.rm_history.specs.History.{IsChange, IsHistory, SameChanges};
-ghost use Rattle.rm_history.specs.State.{state, concerns, IsState};
-ghost use Rattle.rm_history.specs.Artefacts.{Base, Level1, Log, high_of};
-ghost use Rattle.rm_history.specs.Agrees.{BaseAgrees, Level1Agrees, LogAgrees, is_of};
+ghost use Rattle.rm_history.specs.{World.{exists, with_tree, with_file, with_switch}, History.{IsChange, IsHistory, SameChanges}};
+ghost use Rattle.rm_history.specs.{State.{state, concerns, IsState}, Artefacts.{Base, Level1, Log, high_of}};
+ghost use Rattle.rm_history.specs.{Agrees.{BaseAgrees, Level1Agrees, LogAgrees, is_of}, declared.tree.Incarnation.{Incarnation}};
+ghost use Rattle.rm_history.specs.declared.{tree.Standing.TheVariants.{Current, Parent, Orphan}, world.Datafile.{Datafile}};
+ghost use Rattle.rm_history.specs.declared.world.{Switch.{Switch}, World.{World}};
 
 /// No change that concerns a block lies above the version of its state, and one of them made it, or
 /// there is none.

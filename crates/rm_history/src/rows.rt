@@ -1,7 +1,6 @@
 //! The states of all blocks of a datafile, in one pass over a history.
 ghost use Rattle.std.specs.Prelude.{ℕ, ◌≡◌, ◌<◌, All, IfOk, Some, None, length, slice_index_or, if◌then◌else◌};
-ghost use Rattle.rm_history.specs.Tree.{IsThere};
-ghost use Rattle.rm_history.specs.State.{states, concerns, latest, later as later_of};
+ghost use Rattle.rm_history.specs.{Tree.{IsThere}, State.{states, concerns, latest, later as later_of}};
 
 use crate::world::{World, later};
 use rm_base::{Change, FileNo, IncNo, NoMemory, Row, Scn};

@@ -1,4 +1,4 @@
-//! The incarnations of a database, and which of them owns an SCN.
+//! The incarnations of a database, which of them owns an SCN, and whether a datafile exists.
 ghost use Rattle.std.specs.Prelude.{◌≡◌, ◌<◌, ◌≤◌, ◌↔◌, ◌⊎◌, ◌∷◌, [], ◌+◌, length, IsTrue, IsSome, IfSome, IfOk, OnOk, OnErr, IsErrOf, false};
 ghost use Rattle.rm_history.specs.Tree.{IsThere, IsTree, HasParentsBelow, IsProperAncestor, IsShared, is_on_path as path_has, owner, incarnation, reset_of, end_of, with_end, with_branch, segment_end, standing, is_within};
 ghost use Rattle.rm_history.specs.World.{exists_in};
@@ -57,8 +57,7 @@ pub struct Tree {
 
 impl Model for Tree {
     ghost use Rattle.std.specs.Prelude.{List};
-    ghost use Rattle.rm_history.specs.declared.tree.Incarnation.{Incarnation};
-    ghost use Rattle.rm_history.specs.Tree.{IsTree};
+    ghost use Rattle.rm_history.specs.{Tree.{IsTree}, declared.tree.Incarnation.{Incarnation}};
 
     ghost Value = { List Incarnation };
 

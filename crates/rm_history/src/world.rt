@@ -32,9 +32,7 @@ pub struct World {
 }
 
 impl World {
-    ghost use Rattle.rm_history.specs.Tree.{IsThere};
-    ghost use Rattle.rm_history.specs.World.{file_of, exists};
-    ghost use Rattle.rm_history.specs.State.{state, concerns, row_of};
+    ghost use Rattle.rm_history.specs.{Tree.{IsThere}, World.{file_of, exists}, State.{state, concerns, row_of}};
 
     /// The datafile of this number. None where it is not there.
     pub fn file(&self, number: u64) -> Option<Datafile>

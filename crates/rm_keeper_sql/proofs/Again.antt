@@ -1,23 +1,15 @@
 -- The rows that list a schema tell it.
-use Rattle.std.proofs.Common.{◌≡◌, inl, inr, ℕ, zero, suc, ◌+◌, pos, List, [], ◌∷◌, filter, slice_get, Some, refl, sym, ap, subst, ◌∙◌, arith}
 use Rattle.std.specs.List.{AllZip}
-use Rattle.sqlite_value.specs.declared.value.Value.{Value}
-use Rattle.sqlite_value.specs.declared.value.Value.TheVariants.{Null, Int, Real, Text, Blob}
-use Rattle.sqlite_value.specs.Order.{Row, column, bytes}
-use Rattle.sqlite_trees.specs.Tree.{rowid}
-use Rattle.sqlite_trees.specs.Objects.{catalog_tree}
-use Rattle.sqlite_schema.specs.declared.schema.Table.{Table}
-use Rattle.sqlite_schema.specs.declared.schema.Index.{Index}
-use Rattle.sqlite_schema.specs.declared.schema.Schema.{Schema}
+use Rattle.std.proofs.Common.{◌≡◌, inl, inr, ℕ, zero, suc, ◌+◌, pos, List, [], ◌∷◌, filter, slice_get, Some, refl, sym, ap, subst, ◌∙◌, arith}
+use Rattle.sqlite_value.specs.{Order.{Row, column, bytes}, declared.value.Value.{Value, TheVariants.{Null, Int, Real, Text, Blob}}}
+use Rattle.sqlite_trees.specs.{Tree.{rowid}, Objects.{catalog_tree}}
+use Rattle.sqlite_schema.specs.declared.schema.{Table.{Table}, Index.{Index}, Schema.{Schema}}
 use Rattle.sqlite_rules.specs.Lists.{Has}
 use Rattle.sqlite_resolve.specs.Compile.{table_defined_by}
 use Rattle.sqlite_catalog.specs.Listing.{IsTableRow, IsIndexRow, IsViewRow, IsDefined, AreListed, automatic, is_table_row, is_index_row, is_view_row}
 use Rattle.sqlite.specs.Effect.{Database, IsDatabase}
 use Rattle.rm_catalog.specs.declared.record.Edit.{Edit}
-use Rattle.rm_keeper_sql.specs.Tables.{no_schema, record_schema}
-use Rattle.rm_keeper_sql.specs.Table.{Tells, Holds}
-use Rattle.rm_keeper_sql.proofs.Reading.{same_value}
-use Rattle.rm_keeper_sql.proofs.Upsert.{table}
+use Rattle.rm_keeper_sql.{specs.{Tables.{no_schema, record_schema}, Table.{Tells, Holds}}, proofs.{Reading.{same_value}, Upsert.{table}}}
 
 zip_same : {X Y : Type 0} (P : X → Y → Type 0) → ((x : X) (a b : Y) → P x a → P x b → a ≡ b) → (xs : List X) (ys zs : List Y) → AllZip P xs ys
     → AllZip P xs zs → ys ≡ zs

@@ -4,20 +4,12 @@ use Rattle.std.proofs.lemmas.List.Sorted.{IsPermutation-refl}
 use Rattle.sqlite_trees.specs.declared.store.Store.{Ghosts}
 use Rattle.sqlite_value.specs.Order.{Row}
 use Rattle.sqlite_schema.specs.declared.schema.Schema.{Schema}
-use Rattle.sqlite.specs.Effect.{Database}
-use Rattle.sqlite.specs.Held.{Held, state}
-use Rattle.rm_catalog.specs.declared.record.Edit.{Edit}
-use Rattle.rm_catalog.specs.declared.record.Edit.TheVariants.{Put, Drop}
-use Rattle.rm_catalog.specs.Keys.{key_of}
+use Rattle.sqlite.specs.{Effect.{Database}, Held.{Held, state}}
+use Rattle.rm_catalog.specs.{Keys.{key_of}, declared.record.Edit.{Edit, TheVariants.{Put, Drop}}}
 use Rattle.rm_catalog_bytes.specs.Spelling.{body_of}
-use Rattle.rm_keeper_sql.specs.Tables.{no_schema, record_schema}
-use Rattle.rm_keeper_sql.specs.Shelves.{numbered}
-use Rattle.rm_keeper_sql.specs.Table.{Tells, Holds, Takes}
-use Rattle.rm_keeper_sql.specs.Applies.{Makes, MakesAll, Readies, Applies}
-use Rattle.rm_keeper_sql.proofs.Reading.{creates}
-use Rattle.rm_keeper_sql.proofs.Upsert.{upserts}
-use Rattle.rm_keeper_sql.proofs.Delete.{deletes_key}
-use Rattle.rm_keeper_sql.proofs.Telling.{tells_put, tells_drop}
+use Rattle.rm_keeper_sql.specs.{Tables.{no_schema, record_schema}, Shelves.{numbered}, Table.{Tells, Holds, Takes}}
+use Rattle.rm_keeper_sql.{specs.Applies.{Makes, MakesAll, Readies, Applies}, proofs.{Reading.{creates}, Upsert.{upserts}}}
+use Rattle.rm_keeper_sql.proofs.{Delete.{deletes_key}, Telling.{tells_put, tells_drop}}
 
 abbrev pub rows_in : {S : Type 0} → Ghosts S → Held S → List Row
 rows_in g h = (state g h).now.trees 0

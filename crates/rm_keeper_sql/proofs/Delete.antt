@@ -1,23 +1,14 @@
 -- What the text of the deletion makes of the table.
-use Rattle.std.proofs.Common.{◌≡◌, ℕ, ℤ, pos, Bool, true, false, cond, not, ◌&&◌, ◌||◌, List, [], ◌∷◌, map, filter, Ok, refl, sym, ap, subst, ◌∙◌}
 use Rattle.std.specs.List.{list_any, list_all}
+use Rattle.std.proofs.Common.{◌≡◌, ℕ, ℤ, pos, Bool, true, false, cond, not, ◌&&◌, ◌||◌, List, [], ◌∷◌, map, filter, Ok, refl, sym, ap, subst, ◌∙◌}
 use Rattle.std.proofs.lemmas.List.Sorted.{list_any-IsPermutation}
-use Rattle.sqlite.specs.declared.types.Value.TheVariants.{Int}
-use Rattle.sqlite.specs.Query.{Output, IsAnswer, output}
-use Rattle.sqlite.specs.Program.{overlay}
-use Rattle.sqlite.specs.Tree.{Trees}
-use Rattle.sqlite.specs.Order.{Row}
-use Rattle.sqlite.specs.Edit.{without_all, id_in}
+use Rattle.sqlite.specs.{Query.{Output, IsAnswer, output}, Program.{overlay}, Tree.{Trees}, Order.{Row}, Edit.{without_all, id_in}}
+use Rattle.sqlite.specs.{State.{State, Executes}, declared.types.Value.TheVariants.{Int}}
 use Rattle.sqlite_trees.specs.Tree.{rowid, has_rowid, without_rowid}
 use Rattle.sqlite_sql.specs.Term.{holds}
-use Rattle.sqlite_rules.specs.Lists.{Has}
-use Rattle.sqlite_rules.specs.Calls.{ids_of}
-use Rattle.sqlite_rules.proofs.ListLemmas.{has_filtered, has_kept, some_has, some_from}
+use Rattle.sqlite_rules.{specs.{Lists.{Has}, Calls.{ids_of}}, proofs.ListLemmas.{has_filtered, has_kept, some_has, some_from}}
 use Rattle.sqlite_rules.proofs.PlaceLemmas.{tied_same}
-use Rattle.sqlite.specs.State.{State, Executes}
-use Rattle.rm_keeper_sql.specs.Tables.{record_schema}
-use Rattle.rm_keeper_sql.specs.Entries.{stored, IsEntry, has_key, others, IsKeyed}
-use Rattle.rm_keeper_sql.specs.Texts.{delete_text}
+use Rattle.rm_keeper_sql.specs.{Tables.{record_schema}, Entries.{stored, IsEntry, has_key, others, IsKeyed}, Texts.{delete_text}}
 use Rattle.rm_keeper_sql.proofs.Reading.{delete_query, deletes}
 use Rattle.rm_keeper_sql.proofs.Upsert.{equal_int, and_true, own_rowid, both_at, bool_same, filter_same, filter_whole, flat_is}
 

@@ -1,28 +1,15 @@
 -- The records that are read of rows are those that were written.
 use Rattle.std.proofs.Common.{◌≡◌, inl, inr, ℕ, zero, suc, ◌<◌, pos, true, List, [], ◌∷◌, map, length, get_or, set, swap, All, refl, sym, ap, subst, ◌∙◌, IsPermutation}
-use Rattle.std.proofs.lemmas.List.{length-map}
-use Rattle.std.proofs.lemmas.List.Elements.{All-contains}
+use Rattle.std.proofs.lemmas.List.{length-map, Elements.{All-contains}}
 use Rattle.std.proofs.lemmas.List.Sorted.{IsPermutation-refl, IsPermutation-trans, IsPermutation-keeps, IsPermutation-swap}
-use Rattle.sqlite_value.specs.declared.value.Value.{Value}
-use Rattle.sqlite_value.specs.declared.value.Value.TheVariants.{Int}
-use Rattle.sqlite_value.specs.Order.{Row, column, bytes}
-use Rattle.sqlite_trees.specs.declared.store.Store.{Ghosts}
-use Rattle.sqlite_trees.proofs.ListLemmas.{all-permutation}
-use Rattle.sqlite_rules.specs.Lists.{Has}
-use Rattle.sqlite_rules.proofs.ListLemmas.{all_has, all_from, contains_had}
-use Rattle.sqlite.specs.Effect.{Database}
-use Rattle.sqlite.specs.Held.{Held, state}
-use Rattle.rm_catalog.specs.declared.record.Edit.{Edit}
-use Rattle.rm_catalog.specs.declared.record.Record.{Record}
-use Rattle.rm_catalog.specs.Keys.{key_of}
-use Rattle.rm_catalog_bytes.specs.Fits.{Fits}
-use Rattle.rm_catalog_bytes.proofs.Records.{record_same}
-use Rattle.rm_keeper_sql.specs.Tables.{no_schema, record_schema}
-use Rattle.rm_keeper_sql.specs.Shelves.{records_at}
-use Rattle.rm_keeper_sql.specs.Entries.{IsKeyed}
-use Rattle.rm_keeper_sql.specs.Table.{row_of, rows_at, IsTyped, Holds, Reads, Lists}
-use Rattle.rm_keeper_sql.specs.Loads.{AreRows, Selects}
-use Rattle.rm_keeper_sql.proofs.Select.{selects}
+use Rattle.sqlite_value.specs.{Order.{Row, column, bytes}, declared.value.Value.{Value, TheVariants.{Int}}}
+use Rattle.sqlite_trees.{specs.declared.store.Store.{Ghosts}, proofs.ListLemmas.{all-permutation}}
+use Rattle.sqlite_rules.{specs.Lists.{Has}, proofs.ListLemmas.{all_has, all_from, contains_had}}
+use Rattle.sqlite.specs.{Effect.{Database}, Held.{Held, state}}
+use Rattle.rm_catalog.specs.{Keys.{key_of}, declared.record.{Edit.{Edit}, Record.{Record}}}
+use Rattle.rm_catalog_bytes.{specs.Fits.{Fits}, proofs.Records.{record_same}}
+use Rattle.rm_keeper_sql.specs.{Tables.{no_schema, record_schema}, Shelves.{records_at}, Entries.{IsKeyed}}
+use Rattle.rm_keeper_sql.{specs.{Table.{row_of, rows_at, IsTyped, Holds, Reads, Lists}, Loads.{AreRows, Selects}}, proofs.Select.{selects}}
 use Rattle.rm_keeper_sql.proofs.Applied.{some_table}
 
 abbrev number_in : Value → ℕ

@@ -1,11 +1,8 @@
 -- A permutation that is known to be there can be found, where equality can be decided.
-use Rattle.std.proofs.Common.{◌≡◌, ℕ, suc, ◌+◌, ◌<◌, ◌≤◌, Bool, true, false, cond, ◌&&◌, eqb, refl, sym, ap, arith, true≢false}
-use Rattle.std.proofs.Common.{List, [], ◌∷◌, length, get_or, IsPermutation}
-use Rattle.std.proofs.lemmas.Bool.{and_parts, and_from}
-use Rattle.std.proofs.lemmas.List.Sums.{sum_by-cons}
 use Rattle.std.specs.List.{sum_by, remove}
-use Rattle.std.proofs.lemmas.List.Sorted.{IsPermutation-refl, IsPermutation-sym, IsPermutation-trans, IsPermutation-cons, IsPermutation-remove}
-use Rattle.std.proofs.lemmas.List.Sorted.{sum_by-IsPermutation}
+use Rattle.std.proofs.Common.{◌≡◌, ℕ, suc, ◌+◌, ◌<◌, ◌≤◌, Bool, true, false, cond, ◌&&◌, eqb, refl, sym, ap, arith, true≢false, List, [], ◌∷◌, length, get_or, IsPermutation}
+use Rattle.std.proofs.lemmas.{Bool.{and_parts, and_from}, List.Sums.{sum_by-cons}}
+use Rattle.std.proofs.lemmas.List.Sorted.{IsPermutation-refl, IsPermutation-sym, IsPermutation-trans, IsPermutation-cons, IsPermutation-remove, sum_by-IsPermutation}
 use Rattle.std.proofs.Math.Logic.{∥∥₁_elim}
 use base.Stored.{Coded, Coded-set, coded_ℕ, Gv, gnil, gnum, gcons}
 use Rattle.rm_keeper_sql.proofs.Upsert.{same_number, own_number}

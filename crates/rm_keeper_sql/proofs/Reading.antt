@@ -1,28 +1,15 @@
 -- What the texts of the making, the selection and the deletion are read as.
 use Rattle.std.proofs.Common.{◌≡◌, ◌⊎◌, inl, inr, ℕ, pos, negsuc, List, [], ◌∷◌, codes, None, Ok, Err, Result, refl, sym, ap, subst, ◌∙◌, false}
-use Rattle.sqlite.specs.declared.types.Value.TheVariants.{Null, Int}
-use Rattle.sqlite.specs.Collation.TheVariants.{Binary}
-use Rattle.sqlite.specs.Command.TheVariants.{Delete, Select, CreateTable}
-use Rattle.sqlite.specs.Compile.{table_defined_by}
-use Rattle.sqlite.specs.Change.{created, next_tree}
-use Rattle.sqlite_tied.specs.Compute.{everything}
-use Rattle.sqlite.specs.Listing.{understood, reads_listing}
-use Rattle.sqlite.specs.Term.{col, lit, op2}
-use Rattle.sqlite.specs.Query.{Query, inner, end, IsAnswer}
-use Rattle.sqlite.specs.Program.{overlay}
-use Rattle.sqlite.specs.Tree.{Trees}
-use Rattle.sqlite.specs.Order.{Row}
-use Rattle.sqlite_sql.specs.declared.ops.BinaryOp.TheVariants.{Compare}
-use Rattle.sqlite_sql.specs.declared.ops.CompareOp.TheVariants.{Eq}
-use Rattle.rm_keeper_sql.specs.Tables.{no_schema, record_table, record_schema}
-use Rattle.rm_keeper_sql.specs.Texts.{create_text, select_text, delete_text}
-use Rattle.sqlite.specs.Does.{Tally, Does, lacks_sequence}
-use Rattle.sqlite.specs.Effect.{Database}
-use Rattle.sqlite.specs.State.{State, Writes, Executes, Shown, mode_of}
-use Rattle.sqlite.specs.Rows.{Written}
-use Rattle.sqlite.specs.Edit.{without_all}
-use Rattle.sqlite_rules.specs.Calls.{ids_of}
+use Rattle.sqlite.specs.{Collation.TheVariants.{Binary}, Command.TheVariants.{Delete, Select, CreateTable}, Compile.{table_defined_by}}
+use Rattle.sqlite.specs.{Change.{created, next_tree}, Listing.{understood, reads_listing}, Term.{col, lit, op2}}
+use Rattle.sqlite.specs.{Query.{Query, inner, end, IsAnswer}, Program.{overlay}, Tree.{Trees}, Order.{Row}}
+use Rattle.sqlite.specs.{Does.{Tally, Does, lacks_sequence}, Effect.{Database}, State.{State, Writes, Executes, Shown, mode_of}}
+use Rattle.sqlite.specs.{Rows.{Written}, Edit.{without_all}, declared.types.Value.TheVariants.{Null, Int}}
 use Rattle.sqlite.proofs.Callers.{IsPlain, command_of, statement_of, runs_as, reads_as, one_step}
+use Rattle.sqlite_tied.specs.Compute.{everything}
+use Rattle.sqlite_sql.specs.declared.ops.{BinaryOp.TheVariants.{Compare}, CompareOp.TheVariants.{Eq}}
+use Rattle.rm_keeper_sql.specs.{Tables.{no_schema, record_table, record_schema}, Texts.{create_text, select_text, delete_text}}
+use Rattle.sqlite_rules.specs.Calls.{ids_of}
 
 create_is : (command_of (understood no_schema create_text) ≡ CreateTable) × (statement_of create_text (understood no_schema create_text) ≡ create_text)
 unfolding understood everything

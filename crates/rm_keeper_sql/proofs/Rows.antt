@@ -1,12 +1,9 @@
 -- The rows that were read so far.
-use Rattle.std.proofs.Common.{◌≡◌, ◌∙◌, ap₂, sym, List, [], ◌∷◌, ◌++◌}
-use Rattle.std.proofs.lemmas.List.{map-append}
-use Rattle.std.proofs.lemmas.List.Elements.{All-push}
+use Rattle.std.proofs.{Common.{◌≡◌, ◌∙◌, ap₂, sym, List, [], ◌∷◌, ◌++◌}, lemmas.List.{map-append, Elements.{All-push}}}
 use Rattle.sqlite_value.specs.Order.{Row}
 use Rattle.rm_catalog.specs.declared.record.Record.{Record}
 use Rattle.rm_catalog_bytes.specs.Fits.{Fits}
-use Rattle.rm_keeper_sql.specs.Loads.{columns, AreRows}
-use Rattle.rm_keeper_sql.specs.Table.{row_of}
+use Rattle.rm_keeper_sql.specs.{Loads.{columns, AreRows}, Table.{row_of}}
 
 -- one row more, and its record
 pub rows_more : (records : List Record) (r : Record) (rows : List Row) (row : Row) → AreRows records rows → columns row ≡ row_of r → Fits r

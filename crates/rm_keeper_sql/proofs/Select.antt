@@ -1,22 +1,13 @@
 -- What the text of the selection reads of the table.
-use Rattle.std.proofs.Common.{◌≡◌, ℕ, ℤ, pos, Bool, List, [], ◌∷◌, map, drop, filter, refl, sym, ap, subst, ◌∙◌, inl, inr, IsPermutation}
 use Rattle.std.specs.List.{list_all}
+use Rattle.std.proofs.Common.{◌≡◌, ℕ, ℤ, pos, Bool, List, [], ◌∷◌, map, drop, filter, refl, sym, ap, subst, ◌∙◌, inl, inr, IsPermutation}
 use Rattle.std.proofs.lemmas.List.Sorted.{IsPermutation-map}
-use Rattle.sqlite.specs.declared.types.Value.TheVariants.{Int}
-use Rattle.sqlite.specs.Query.{Output, output}
-use Rattle.sqlite.specs.Order.{Row, column}
+use Rattle.sqlite.specs.{Query.{Output, output}, Order.{Row, column}, State.{State, Shown}, declared.types.Value.TheVariants.{Int}}
 use Rattle.sqlite_sql.specs.Term.{holds}
 use Rattle.sqlite_trees.proofs.ListLemmas.{map-map}
-use Rattle.sqlite_rules.specs.Lists.{Has}
-use Rattle.sqlite_rules.proofs.ListLemmas.{has_filtered}
-use Rattle.sqlite.specs.State.{State, Shown}
-use Rattle.rm_keeper_sql.specs.Tables.{record_schema}
-use Rattle.rm_keeper_sql.specs.Texts.{select_text}
-use Rattle.rm_keeper_sql.specs.Entries.{stored, IsEntry, IsKeyed}
-use Rattle.rm_keeper_sql.specs.Table.{is_of, rows_at}
-use Rattle.rm_keeper_sql.specs.Loads.{columns}
-use Rattle.rm_keeper_sql.proofs.Reading.{query, answers}
-use Rattle.rm_keeper_sql.proofs.Upsert.{equal_int, and_true, filter_same, flat_is}
+use Rattle.sqlite_rules.{specs.Lists.{Has}, proofs.ListLemmas.{has_filtered}}
+use Rattle.rm_keeper_sql.specs.{Tables.{record_schema}, Texts.{select_text}, Entries.{stored, IsEntry, IsKeyed}, Table.{is_of, rows_at}}
+use Rattle.rm_keeper_sql.{specs.Loads.{columns}, proofs.{Reading.{query, answers}, Upsert.{equal_int, and_true, filter_same, flat_is}}}
 
 pub map_same : {X Y : Type 0} (f g : X → Y) (xs : List X) → ((x : X) → Has xs x → f x ≡ g x) → map f xs ≡ map g xs
 map_same f g [] each = refl

@@ -1,30 +1,20 @@
 -- Each edit that is made in the table is told by it.
-use Rattle.std.proofs.Common.{◌≡◌, ◌⊎◌, inl, inr, ℕ, ◌^◌, ◌<◌, ℤ, Bool, true, false, cond, not, ◌&&◌, eqb, ltb, List, [], ◌∷◌, ◌++◌, map, drop, filter, Ordering, Less, Equal, Greater, refl, sym, ap, subst, ◌∙◌, arith, true≢false, IsPermutation}
 use Rattle.std.specs.Ordering.{is_eq}
-use Rattle.std.proofs.lemmas.Bool.{and_parts, and_from, or_parts, not-true, false_from_ne_true}
-use Rattle.std.proofs.lemmas.Bool.Decides.{nat_tests}
+use Rattle.std.proofs.Common.{◌≡◌, ◌⊎◌, inl, inr, ℕ, ◌^◌, ◌<◌, ℤ, Bool, true, false, cond, not, ◌&&◌, eqb, ltb, List, [], ◌∷◌, ◌++◌, map, drop, filter, Ordering, Less, Equal, Greater, refl, sym, ap, subst, ◌∙◌, arith, true≢false, IsPermutation}
+use Rattle.std.proofs.lemmas.Bool.{and_parts, and_from, or_parts, not-true, false_from_ne_true, Decides.{nat_tests}}
 use Rattle.std.proofs.lemmas.List.Sorted.{IsPermutation-refl, IsPermutation-sym, IsPermutation-trans, IsPermutation-cons, IsPermutation-middle, IsPermutation-map, IsPermutation-filter_both}
 use Rattle.sqlite_value.specs.Order.{Row, column, value_cmp}
-use Rattle.sqlite_trees.specs.Tree.{IsTable, rowid, put_row}
-use Rattle.sqlite_trees.proofs.TreeLemmas.{IsTable-put_row}
+use Rattle.sqlite_trees.{specs.Tree.{IsTable, rowid, put_row}, proofs.TreeLemmas.{IsTable-put_row}}
 use Rattle.sqlite_trees.proofs.ListLemmas.{filter-map, IsPermutation-filter}
-use Rattle.sqlite_rules.specs.Lists.{Has}
-use Rattle.sqlite_rules.specs.Edit.{is_taken}
-use Rattle.sqlite_rules.proofs.ListLemmas.{all_has, all_from, has_filtered, has_either}
+use Rattle.sqlite_rules.{specs.{Lists.{Has}, Edit.{is_taken}}, proofs.ListLemmas.{all_has, all_from, has_filtered, has_either}}
 use Rattle.sqlite_rules.proofs.TableLemmas.{put_has}
-use Rattle.rm_catalog.specs.declared.record.Key.{Key}
-use Rattle.rm_catalog.specs.declared.record.Record.{Record}
-use Rattle.rm_catalog.specs.declared.record.Edit.{Edit}
-use Rattle.rm_catalog.specs.declared.record.Edit.TheVariants.{Put, Drop}
-use Rattle.rm_catalog.specs.Keys.{key_of, place, place_of, place_of_key}
-use Rattle.rm_catalog.specs.Edits.{below, above, after_edit, after_edits}
+use Rattle.rm_catalog.specs.{Keys.{key_of, place, place_of, place_of_key}, Edits.{below, above, after_edit, after_edits}}
+use Rattle.rm_catalog.specs.declared.record.{Key.{Key}, Record.{Record}, Edit.{Edit, TheVariants.{Put, Drop}}}
 use Rattle.rm_catalog.proofs.Filters.{after_both}
 use Rattle.rm_catalog_bytes.specs.Spelling.{body_of}
-use Rattle.rm_keeper_sql.specs.Entries.{stored, IsEntry, is_number, has_key, others, IsKeyed, Upserted}
-use Rattle.rm_keeper_sql.specs.Shelves.{edits_at, records_at}
+use Rattle.rm_keeper_sql.specs.{Entries.{stored, IsEntry, is_number, has_key, others, IsKeyed, Upserted}, Shelves.{edits_at, records_at}}
 use Rattle.rm_keeper_sql.specs.Table.{row_of, is_of, rows_at, IsTyped, Tells}
-use Rattle.rm_keeper_sql.proofs.Upsert.{same_number, own_number, filter_same, bool_same}
-use Rattle.rm_keeper_sql.proofs.Delete.{filter_twice}
+use Rattle.rm_keeper_sql.proofs.{Upsert.{same_number, own_number, filter_same, bool_same}, Delete.{filter_twice}}
 
 -- ---- the records after one edit more
 

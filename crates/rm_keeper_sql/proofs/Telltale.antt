@@ -1,21 +1,12 @@
 -- What a keeper that tells its table knows after a call.
 use Rattle.std.proofs.Common.{◌≡◌, ◌≢◌, ℕ, List, [], ◌∷◌, ◌++◌, sym, ap, subst, ◌∙◌, append_assoc, append-nil, IsTrue, Result, Ok, Err, IfOk, IsPermutation}
-use Rattle.std.proofs.Math.Logic.{∥∥₁_map}
-use Rattle.std.proofs.lemmas.Bool.{ne_eqb}
-use Rattle.std.proofs.lemmas.List.{map-append}
+use Rattle.std.proofs.{Math.Logic.{∥∥₁_map}, lemmas.{Bool.{ne_eqb}, List.{map-append}}}
 use Rattle.sqlite_trees.specs.declared.store.Store.{Ghosts}
 use Rattle.sqlite.specs.Held.{Held, state}
-use Rattle.rm_catalog.specs.declared.record.Record.{Record}
-use Rattle.rm_catalog.specs.contracts.record.Record.{the_row}
-use Rattle.rm_catalog.specs.declared.record.Edit.{Edit}
-use Rattle.rm_catalog.specs.Edits.{after_edits}
-use Rattle.rm_catalog.specs.Keys.{Ascends}
-use Rattle.rm_catalog.proofs.Ascending.{ascends_nil, ascends_after_all}
-use Rattle.rm_keeper_sql.specs.Shelves.{numbered, edits_at, records_at}
-use Rattle.rm_keeper_sql.specs.Table.{Holds, Takes, Reads}
-use Rattle.rm_keeper_sql.specs.Known.{Known}
-use Rattle.rm_keeper_sql.proofs.Permuted.{permuted}
-use Rattle.rm_keeper_sql.proofs.Telling.{records_own, records_other}
+use Rattle.rm_catalog.specs.{contracts.record.Record.{the_row}, Edits.{after_edits}, Keys.{Ascends}, declared.record.Record.{Record}}
+use Rattle.rm_catalog.{specs.declared.record.Edit.{Edit}, proofs.Ascending.{ascends_nil, ascends_after_all}}
+use Rattle.rm_keeper_sql.specs.{Shelves.{numbered, edits_at, records_at}, Table.{Holds, Takes, Reads}, Known.{Known}}
+use Rattle.rm_keeper_sql.proofs.{Permuted.{permuted}, Telling.{records_own, records_other}}
 
 -- one edit more of those that are added
 pub one_more : (n : ℕ) (log items : List (ℕ × Edit)) (es more : List Edit) (e : Edit) → items ≡ log ++ numbered n es → es ++ e ∷ [] ≡ more

@@ -1,54 +1,28 @@
 -- What the text of the upsert makes of the table.
-use Rattle.std.proofs.Common.{◌≡◌, inl, inr, ℕ, ℤ, pos, negsuc, Bool, true, false, cond, not, ◌&&◌, ◌||◌, List, [], ◌∷◌, ◌++◌, map, flat_map, filter, Option, Some, None, Ordering, Less, Equal, Greater, Ok, refl, sym, ap, subst, ◌∙◌, eqb, is_eq, int_cmp, arith, IsPermutation}
-use Rattle.std.proofs.lemmas.Bool.Decides.{nat_tests}
-use Rattle.std.proofs.lemmas.Bool.{and_parts, and_from, not-true, false_from_ne_true}
-use Rattle.std.proofs.lemmas.Cmp.{tied_itself, tied_back}
 use Rattle.std.specs.List.{list_all}
+use Rattle.std.proofs.Common.{◌≡◌, inl, inr, ℕ, ℤ, pos, negsuc, Bool, true, false, cond, not, ◌&&◌, ◌||◌, List, [], ◌∷◌, ◌++◌, map, flat_map, filter, Option, Some, None, Ordering, Less, Equal, Greater, Ok, refl, sym, ap, subst, ◌∙◌, eqb, is_eq, int_cmp, arith, IsPermutation}
+use Rattle.std.proofs.lemmas.{Bool.{and_parts, and_from, not-true, false_from_ne_true, Decides.{nat_tests}}, Cmp.{tied_itself, tied_back}}
 use Rattle.std.proofs.lemmas.Int.{ints}
-use Rattle.sqlite.specs.declared.types.Value.TheVariants.{Null, Int, Blob}
-use Rattle.sqlite.specs.Table.{Table}
-use Rattle.sqlite.specs.Collation.TheVariants.{Binary}
-use Rattle.sqlite.specs.Kind.TheVariants.{Integer}
-use Rattle.sqlite.specs.Command.TheVariants.{InsertOr}
-use Rattle.sqlite.specs.Command.{Command}
-use Rattle.sqlite.specs.Source.TheVariants.{Values}
-use Rattle.sqlite_schema.specs.declared.command.Conflict.TheVariants.{Abort}
-use Rattle.sqlite_schema.specs.declared.command.Upsert.{Upsert}
-use Rattle.sqlite_schema.specs.declared.program.Program.{Program}
-use Rattle.sqlite_schema.specs.declared.schema.Keys.TheVariants.{Enforced}
-use Rattle.sqlite_tied.specs.Compute.{everything}
-use Rattle.sqlite.specs.Listing.{understood}
-use Rattle.sqlite.specs.Term.{Term, col, lit, op2}
-use Rattle.sqlite.specs.Query.{Query, Output, inner, end, IsAnswer, output, page}
-use Rattle.sqlite.specs.Program.{overlay}
-use Rattle.sqlite.specs.Tree.{Trees}
-use Rattle.sqlite.specs.Order.{Row, value_cmp}
-use Rattle.sqlite_sql.specs.declared.ops.BinaryOp.TheVariants.{Compare}
-use Rattle.sqlite_sql.specs.declared.ops.CompareOp.TheVariants.{Eq}
-use Rattle.sqlite.specs.Cast.{cast, cast_row}
-use Rattle.sqlite.specs.Edit.{Edit, edit_of, edited, left_by, with_rowid, next_rowid, is_taken, are_fresh}
+use Rattle.sqlite.specs.{Table.{Table}, Collation.TheVariants.{Binary}, Kind.TheVariants.{Integer}, Command.TheVariants.{InsertOr}}
+use Rattle.sqlite.specs.{Command.{Command}, Source.TheVariants.{Values}, Listing.{understood}, Term.{Term, col, lit, op2}}
+use Rattle.sqlite.specs.{Query.{Query, Output, inner, end, IsAnswer, output, page}, Program.{overlay}, Tree.{Trees}, Order.{Row, value_cmp}}
+use Rattle.sqlite.specs.{Cast.{cast, cast_row}, Edit.{Edit, edit_of, edited, left_by, with_rowid, next_rowid, is_taken, are_fresh}}
 use Rattle.sqlite.specs.Rowids.TheVariants.{Chosen, Given}
-use Rattle.sqlite_rules.specs.Keys.{AreConflicts, conflicts}
-use Rattle.sqlite_sql.specs.Ops.{unary, binary, is_true, from_truth}
-use Rattle.sqlite_schema.specs.Rules.{equal}
-use Rattle.sqlite_value.specs.Keys.{first_key}
-use Rattle.sqlite_value.proofs.OrderLemmas.{value_cmp-Int, value_cmp_total}
-use Rattle.sqlite_trees.specs.Tree.{IsTable, rowid, has_rowid, put_row, without_rowid}
-use Rattle.sqlite_sql.specs.Term.{holds}
-use Rattle.sqlite_rules.specs.Lists.{Has}
-use Rattle.sqlite_rules.specs.Calls.{ids_of}
-use Rattle.sqlite_rules.specs.declared.error.Refusal.{Refusal}
-use Rattle.sqlite_rules.proofs.ListLemmas.{all_has}
-use Rattle.sqlite_rules.proofs.PlaceLemmas.{tied_same}
 use Rattle.sqlite.specs.Rows.{Written, Task, nothing, count_of, Puts, Updates, Clears, Resolves, Upserts, Judged, Tries, TriesEach, InsertsOr}
-use Rattle.sqlite.specs.Does.{Tally, Does}
-use Rattle.sqlite.specs.Effect.{Database}
-use Rattle.sqlite.specs.State.{State, Executes, mode_of}
-use Rattle.rm_keeper_sql.specs.Tables.{record_table, record_schema}
-use Rattle.rm_keeper_sql.specs.Texts.{upsert_text}
-use Rattle.rm_keeper_sql.specs.Entries.{stored, IsEntry, has_key, others, IsKeyed, Upserted}
-use Rattle.rm_keeper_sql.proofs.Reading.{went, same_value}
+use Rattle.sqlite.specs.{Does.{Tally, Does}, Effect.{Database}, State.{State, Executes, mode_of}}
+use Rattle.sqlite.specs.declared.types.Value.TheVariants.{Null, Int, Blob}
 use Rattle.sqlite.proofs.Callers.{IsPlain, command_of, statement_of, runs_as, one_step, one_permutation}
+use Rattle.sqlite_schema.specs.{Rules.{equal}, declared.command.{Conflict.TheVariants.{Abort}, Upsert.{Upsert}}}
+use Rattle.sqlite_schema.specs.declared.{program.Program.{Program}, schema.Keys.TheVariants.{Enforced}}
+use Rattle.sqlite_tied.specs.Compute.{everything}
+use Rattle.sqlite_sql.specs.{Ops.{unary, binary, is_true, from_truth}, Term.{holds}, declared.ops.BinaryOp.TheVariants.{Compare}}
+use Rattle.sqlite_sql.specs.declared.ops.CompareOp.TheVariants.{Eq}
+use Rattle.sqlite_rules.specs.{Keys.{AreConflicts, conflicts}, Lists.{Has}, Calls.{ids_of}, declared.error.Refusal.{Refusal}}
+use Rattle.sqlite_rules.proofs.{ListLemmas.{all_has}, PlaceLemmas.{tied_same}}
+use Rattle.sqlite_value.{specs.Keys.{first_key}, proofs.OrderLemmas.{value_cmp-Int, value_cmp_total}}
+use Rattle.sqlite_trees.specs.Tree.{IsTable, rowid, has_rowid, put_row, without_rowid}
+use Rattle.rm_keeper_sql.specs.{Tables.{record_table, record_schema}, Texts.{upsert_text}}
+use Rattle.rm_keeper_sql.{specs.Entries.{stored, IsEntry, has_key, others, IsKeyed, Upserted}, proofs.Reading.{went, same_value}}
 
 -- the table as the schema has it
 abbrev pub table : Table

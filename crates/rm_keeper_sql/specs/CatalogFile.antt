@@ -2,15 +2,9 @@
 use Rattle.std.specs.Prelude.{◌≡◌, ℕ, List, IsTrue}
 use Rattle.sqlite.specs.State.{HasCleanDisk}
 use Rattle.sqlite_trees.specs.declared.store.Store.{Ghosts}
-use Rattle.rm_catalog.specs.declared.record.Record.{Record}
-use Rattle.rm_catalog.specs.declared.record.Edit.{Edit}
-use Rattle.rm_keeper_sql.specs.Tables.{IsOurs}
-use Rattle.rm_keeper_sql.specs.Table.{Takes, Reads, Lists}
-use Rattle.rm_catalog.specs.declared.keeper.KeeperFail.{KeeperFail}
-use Rattle.rm_keeper_sql.specs.declared.file.Unopened.{Unopened}
-use Rattle.rm_keeper_sql.specs.declared.file.CatalogFile.{CatalogFile}
-use Rattle.rm_keeper_sql.specs.declared.file.CatalogFile.TheVariants.{Opened, NotOpened}
-use Rattle.rm_keeper_sql.specs.SqlKeeper.{state_of, faults_of, number_of}
+use Rattle.rm_catalog.specs.declared.{record.{Record.{Record}, Edit.{Edit}}, keeper.KeeperFail.{KeeperFail}}
+use Rattle.rm_keeper_sql.specs.{Tables.{IsOurs}, Table.{Takes, Reads, Lists}, SqlKeeper.{state_of, faults_of, number_of}}
+use Rattle.rm_keeper_sql.specs.declared.file.{Unopened.{Unopened}, CatalogFile.{CatalogFile, TheVariants.{Opened, NotOpened}}}
 
 -- why each call of it fails
 abbrev pub cause_of : Unopened → KeeperFail

@@ -1,14 +1,11 @@
 -- What a load reads of a connection: the records of the rows.
 use Rattle.std.specs.Prelude.{◌≡◌, ℕ, pos, true, List, [], ◌∷◌, All, map}
-use Rattle.sqlite_value.specs.declared.value.Value.TheVariants.{Int}
-use Rattle.sqlite_value.specs.Order.{Row, column}
+use Rattle.sqlite_value.specs.{Order.{Row, column}, declared.value.Value.TheVariants.{Int}}
 use Rattle.sqlite_trees.specs.declared.store.Store.{Ghosts}
-use Rattle.sqlite.specs.State.{Shown}
-use Rattle.sqlite.specs.Held.{Held, state}
+use Rattle.sqlite.specs.{State.{Shown}, Held.{Held, state}}
 use Rattle.rm_catalog.specs.declared.record.Record.{Record}
 use Rattle.rm_catalog_bytes.specs.Fits.{Fits}
-use Rattle.rm_keeper_sql.specs.Texts.{select_text}
-use Rattle.rm_keeper_sql.specs.Table.{row_of}
+use Rattle.rm_keeper_sql.specs.{Texts.{select_text}, Table.{row_of}}
 
 -- the three columns that are selected
 abbrev pub columns : Row → Row

@@ -1,18 +1,11 @@
 -- What the table has of the edits that were made.
 use Rattle.std.specs.Prelude.{◌≡◌, ◌⊎◌, ◌<◌, ◌^◌, ℕ, pos, Bool, List, [], ◌∷◌, ◌++◌, map, drop, filter, IsPermutation}
-use Rattle.sqlite_value.specs.declared.value.Value.TheVariants.{Int, Blob}
-use Rattle.sqlite_value.specs.Order.{Row, column}
+use Rattle.sqlite_value.specs.{Order.{Row, column}, declared.value.Value.TheVariants.{Int, Blob}}
 use Rattle.sqlite_rules.specs.Lists.{Has}
 use Rattle.sqlite.specs.Effect.{Database}
-use Rattle.rm_catalog.specs.declared.record.Record.{Record}
-use Rattle.rm_catalog.specs.declared.record.Edit.{Edit}
-use Rattle.rm_catalog.specs.declared.record.Edit.TheVariants.{Put, Drop}
-use Rattle.rm_catalog.specs.Keys.{key_of}
-use Rattle.rm_catalog_bytes.specs.Spelling.{body_of}
-use Rattle.rm_catalog_bytes.specs.Fits.{Fits}
-use Rattle.rm_keeper_sql.specs.Tables.{no_schema, record_schema}
-use Rattle.rm_keeper_sql.specs.Entries.{is_number, IsKeyed}
-use Rattle.rm_keeper_sql.specs.Shelves.{numbered, records_at}
+use Rattle.rm_catalog.specs.{Keys.{key_of}, declared.record.{Record.{Record}, Edit.{Edit, TheVariants.{Put, Drop}}}}
+use Rattle.rm_catalog_bytes.specs.{Spelling.{body_of}, Fits.{Fits}}
+use Rattle.rm_keeper_sql.specs.{Tables.{no_schema, record_schema}, Entries.{is_number, IsKeyed}, Shelves.{numbered, records_at}}
 
 -- what a row has of a record: the kind, the id, and the bytes of the other fields
 abbrev pub row_of : Record → Row

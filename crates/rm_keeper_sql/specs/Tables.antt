@@ -1,11 +1,7 @@
 -- The table of the catalog file, and the schema of a file that has it alone.
 use Rattle.std.specs.Prelude.{◌≡◌, ◌⊎◌, ℕ, List, [], ◌∷◌, map, codes, Contains, None, true, false}
+use Rattle.sqlite.specs.{Table.{Table}, Schema.{Schema}, Collation.TheVariants.{Binary}, Kind.TheVariants as kind, Change.{created}}
 use Rattle.sqlite.specs.declared.types.Value.TheVariants.{Null}
-use Rattle.sqlite.specs.Table.{Table}
-use Rattle.sqlite.specs.Schema.{Schema}
-use Rattle.sqlite.specs.Collation.TheVariants.{Binary}
-use Rattle.sqlite.specs.Kind.TheVariants as kind
-use Rattle.sqlite.specs.Change.{created}
 
 -- a file with nothing in it
 abbrev pub no_schema : Schema

@@ -1,10 +1,7 @@
 -- The four texts that a keeper runs, and what it gives to each.
 use Rattle.std.specs.Prelude.{ℕ, pos, codes, List, [], ◌∷◌}
-use Rattle.sqlite_value.specs.declared.value.Value.TheVariants.{Int, Blob}
-use Rattle.sqlite_value.specs.Order.{Row}
-use Rattle.rm_catalog.specs.declared.record.Edit.{Edit}
-use Rattle.rm_catalog.specs.declared.record.Edit.TheVariants.{Put, Drop}
-use Rattle.rm_catalog.specs.Keys.{key_of}
+use Rattle.sqlite_value.specs.{Order.{Row}, declared.value.Value.TheVariants.{Int, Blob}}
+use Rattle.rm_catalog.specs.{Keys.{key_of}, declared.record.Edit.{Edit, TheVariants.{Put, Drop}}}
 use Rattle.rm_catalog_bytes.specs.Spelling.{body_of}
 
 -- makes the table where it is missing

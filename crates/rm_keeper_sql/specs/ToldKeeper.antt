@@ -1,12 +1,9 @@
 -- A keeper over a table that tells what it accepted.
 use Rattle.std.specs.Prelude.{ℕ, List}
 use Rattle.sqlite_trees.specs.declared.store.Store.{Ghosts}
-use Rattle.rm_catalog.specs.declared.record.Record.{Record}
-use Rattle.rm_catalog.specs.declared.record.Edit.{Edit}
-use Rattle.rm_keeper_sql.specs.declared.keeper.SqlKeeper.{SqlKeeper}
+use Rattle.rm_catalog.specs.declared.record.{Record.{Record}, Edit.{Edit}}
+use Rattle.rm_keeper_sql.specs.{Shelves.{records_at}, SqlKeeper.{faults_of, number_of}, declared.keeper.SqlKeeper.{SqlKeeper}}
 use Rattle.rm_keeper_sql.specs.declared.told.ToldKeeper.{ToldKeeper}
-use Rattle.rm_keeper_sql.specs.Shelves.{records_at}
-use Rattle.rm_keeper_sql.specs.SqlKeeper.{faults_of, number_of}
 
 -- all edits that were accepted, each with the number of its database
 abbrev pub log_of : {S : Type 0} {g : Ghosts S} → ToldKeeper S g → List (ℕ × Edit)

@@ -54,11 +54,8 @@ impl Unopened {
 }
 
 impl Shelf for Unopened {
-    ghost use Rattle.std.specs.Prelude.{None, Err, IfOk, IfSome, OnOk, OnErr, IsErrOf};
-    ghost use Rattle.std.specs.Option.{option_map};
-    ghost use Rattle.rm_catalog.specs.Edits.{after_edits};
-    ghost use Rattle.rm_catalog.specs.Faults.{Answers};
-    ghost use Rattle.rm_catalog.specs.Keys.{Ascends};
+    ghost use Rattle.std.specs.{Prelude.{None, Err, IfOk, IfSome, OnOk, OnErr, IsErrOf}, Option.{option_map}};
+    ghost use Rattle.rm_catalog.specs.{Edits.{after_edits}, Faults.{Answers}, Keys.{Ascends}};
     ghost use Rattle.rm_shelf.specs.Shelved.{AllStay, OthersStay, under};
     ghost use Rattle.rm_keeper_sql.specs.CatalogFile.{cause_of, faults_without};
 
@@ -101,12 +98,8 @@ impl Shelf for Unopened {
 }
 
 impl Keeper for Unopened {
-    ghost use Rattle.std.specs.Prelude.{List, Option, None, Err, IfOk, IfSome, OnOk, OnErr, IsErrOf};
-    ghost use Rattle.std.specs.Option.{option_map};
-    ghost use Rattle.rm_catalog.specs.Edits.{after_edits};
-    ghost use Rattle.rm_catalog.specs.Faults.{Answers};
-    ghost use Rattle.rm_catalog.specs.Keys.{Ascends};
-    ghost use Rattle.rm_catalog.specs.declared.record.Record.{Record};
+    ghost use Rattle.std.specs.{Prelude.{List, Option, None, Err, IfOk, IfSome, OnOk, OnErr, IsErrOf}, Option.{option_map}};
+    ghost use Rattle.rm_catalog.specs.{Edits.{after_edits}, Faults.{Answers}, Keys.{Ascends}, declared.record.Record.{Record}};
     ghost use Rattle.rm_keeper_sql.specs.CatalogFile.{cause_of, faults_without};
 
     ghost kept = { λ _. None };
@@ -230,11 +223,8 @@ impl<S: Alter> CatalogFile<S> {
 }
 
 impl<S: Alter> Shelf for CatalogFile<S> {
-    ghost use Rattle.std.specs.Prelude.{None, IfOk, IfSome, OnOk, OnErr, IsErrOf};
-    ghost use Rattle.std.specs.Option.{option_map};
-    ghost use Rattle.rm_catalog.specs.Edits.{after_edits};
-    ghost use Rattle.rm_catalog.specs.Faults.{Answers};
-    ghost use Rattle.rm_catalog.specs.Keys.{Ascends};
+    ghost use Rattle.std.specs.{Prelude.{None, IfOk, IfSome, OnOk, OnErr, IsErrOf}, Option.{option_map}};
+    ghost use Rattle.rm_catalog.specs.{Edits.{after_edits}, Faults.{Answers}, Keys.{Ascends}};
     ghost use Rattle.rm_shelf.specs.Shelved.{AllStay, OthersStay, under};
     ghost use Rattle.rm_keeper_sql.specs.CatalogFile.{faults_in, number_in, Shuts, Stays, ReadsOf, TakesOf};
 
@@ -284,12 +274,8 @@ impl<S: Alter> Shelf for CatalogFile<S> {
 }
 
 impl<S: Alter> Keeper for CatalogFile<S> {
-    ghost use Rattle.std.specs.Prelude.{List, Option, None, IfOk, IfSome, OnOk, OnErr, IsErrOf};
-    ghost use Rattle.std.specs.Option.{option_map};
-    ghost use Rattle.rm_catalog.specs.Edits.{after_edits};
-    ghost use Rattle.rm_catalog.specs.Faults.{Answers};
-    ghost use Rattle.rm_catalog.specs.Keys.{Ascends};
-    ghost use Rattle.rm_catalog.specs.declared.record.Record.{Record};
+    ghost use Rattle.std.specs.{Prelude.{List, Option, None, IfOk, IfSome, OnOk, OnErr, IsErrOf}, Option.{option_map}};
+    ghost use Rattle.rm_catalog.specs.{Edits.{after_edits}, Faults.{Answers}, Keys.{Ascends}, declared.record.Record.{Record}};
     ghost use Rattle.rm_keeper_sql.specs.CatalogFile.{faults_in, number_in, Shuts, Stays, ReadsOf, TakesOf};
 
     ghost kept = { λ _. None };

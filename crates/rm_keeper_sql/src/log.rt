@@ -1,6 +1,5 @@
 //! The edits that a shelf accepted, which proofs alone read.
-ghost use Rattle.std.specs.Prelude.{◌≡◌, ◌∷◌, ◌++◌, [], ℕ, List};
-ghost use Rattle.std.specs.Borrow.{ftrue};
+ghost use Rattle.std.specs.{Prelude.{◌≡◌, ◌∷◌, ◌++◌, [], ℕ, List}, Borrow.{ftrue}};
 ghost use Rattle.rm_catalog.specs.declared.record.Edit.{Edit};
 ghost use Rattle.rm_keeper_sql.specs.Shelves.{numbered};
 

@@ -1,15 +1,11 @@
 //! The four texts, and what is asked of a connection.
 ghost use Rattle.std.specs.Prelude.{◌≡◌, ◌<◌, ◌^◌, [], ◌∷◌, pos, false, IsTrue, IfOk, OnOk, OnErr};
 ghost use Rattle.sqlite_value.specs.declared.value.Value.TheVariants.{Int, Blob};
-ghost use Rattle.sqlite.specs.State.{HasCleanDisk, Shown};
-ghost use Rattle.sqlite.specs.Held.{state};
+ghost use Rattle.sqlite.specs.{State.{HasCleanDisk, Shown}, Held.{state}};
 ghost use Rattle.rm_catalog.specs.Keys.{key_of};
-ghost use Rattle.rm_catalog_bytes.specs.Spelling.{body_of};
-ghost use Rattle.rm_catalog_bytes.specs.Fits.{Fits};
-ghost use Rattle.rm_keeper_sql.specs.Texts.{create_text, select_text, upsert_text, delete_text};
-ghost use Rattle.rm_keeper_sql.specs.Tables.{IsOurs};
-ghost use Rattle.rm_keeper_sql.specs.Table.{row_of, Takes, Reads, Lists};
-ghost use Rattle.rm_keeper_sql.specs.Applies.{Ran, Makes, MakesAll, Readies, Keeps, Goes};
+ghost use Rattle.rm_catalog_bytes.specs.{Spelling.{body_of}, Fits.{Fits}};
+ghost use Rattle.rm_keeper_sql.specs.{Texts.{create_text, select_text, upsert_text, delete_text}, Tables.{IsOurs}};
+ghost use Rattle.rm_keeper_sql.specs.{Table.{row_of, Takes, Reads, Lists}, Applies.{Ran, Makes, MakesAll, Readies, Keeps, Goes}};
 ghost use Rattle.rm_keeper_sql.specs.Loads.{columns, AreRows, Selects};
 
 use crate::fault::Fault;

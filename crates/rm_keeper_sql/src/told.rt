@@ -2,8 +2,7 @@
 ghost use Rattle.std.specs.Prelude.{◌≡◌, ◌≤◌};
 ghost use Rattle.rm_base.specs.Outside.{Rose};
 ghost use Rattle.rm_catalog.specs.declared.keeper.KeeperFail.TheVariants.{Failed};
-ghost use Rattle.rm_keeper_sql.specs.SqlKeeper.{connection_of};
-ghost use Rattle.rm_keeper_sql.specs.Known.{Known};
+ghost use Rattle.rm_keeper_sql.specs.{SqlKeeper.{connection_of}, Known.{Known}};
 
 use crate::keeper::SqlKeeper;
 use crate::log::Log;
@@ -39,8 +38,7 @@ pub struct ToldKeeper<S: Honest> {
 }
 
 impl<S: Honest> ToldKeeper<S> {
-    ghost use Rattle.rm_keeper_sql.specs.SqlKeeper.{number_of};
-    ghost use Rattle.rm_keeper_sql.specs.ToldKeeper.{log_of, keeper_of, faults_told};
+    ghost use Rattle.rm_keeper_sql.specs.{SqlKeeper.{number_of}, ToldKeeper.{log_of, keeper_of, faults_told}};
 
     /// A keeper over a table that holds these edits; of a file that is new, none.
     pub fn new(keeper: SqlKeeper<S>, log: Log) -> Self
@@ -63,8 +61,7 @@ impl<S: Honest> ToldKeeper<S> {
 
 impl ToldKeeper<MemStore> {
     ghost use Rattle.std.specs.Prelude.{[], IfOk};
-    ghost use Rattle.rm_keeper_sql.specs.SqlKeeper.{number_of};
-    ghost use Rattle.rm_keeper_sql.specs.ToldKeeper.{log_of, keeper_of, faults_told};
+    ghost use Rattle.rm_keeper_sql.specs.{SqlKeeper.{number_of}, ToldKeeper.{log_of, keeper_of, faults_told}};
 
     /// A keeper in memory, of number 0, which has accepted no edits.
     pub fn in_memory(alloc: Global) -> Result<Self, AllocError>
@@ -79,14 +76,10 @@ impl ToldKeeper<MemStore> {
 }
 
 impl<S: Honest> Shelf for ToldKeeper<S> {
-    ghost use Rattle.std.specs.Prelude.{◌++◌, Some, IfOk, IfSome, OnOk, OnErr, IsErrOf, IsPermutation};
-    ghost use Rattle.std.specs.Option.{option_map};
-    ghost use Rattle.rm_catalog.specs.Edits.{after_edits};
-    ghost use Rattle.rm_catalog.specs.Faults.{Answers};
-    ghost use Rattle.rm_catalog.specs.Keys.{Ascends};
+    ghost use Rattle.std.specs.{Prelude.{◌++◌, Some, IfOk, IfSome, OnOk, OnErr, IsErrOf, IsPermutation}, Option.{option_map}};
+    ghost use Rattle.rm_catalog.specs.{Edits.{after_edits}, Faults.{Answers}, Keys.{Ascends}};
     ghost use Rattle.rm_shelf.specs.Shelved.{AllStay, OthersStay, under};
-    ghost use Rattle.rm_keeper_sql.specs.Shelves.{numbered, records_at};
-    ghost use Rattle.rm_keeper_sql.specs.SqlKeeper.{number_of};
+    ghost use Rattle.rm_keeper_sql.specs.{Shelves.{numbered, records_at}, SqlKeeper.{number_of}};
     ghost use Rattle.rm_keeper_sql.specs.ToldKeeper.{log_of, keeper_of, shelved_by, faults_told};
 
     ghost shelved = { λ k. Some (shelved_by k) };
@@ -134,13 +127,9 @@ impl<S: Honest> Shelf for ToldKeeper<S> {
 }
 
 impl<S: Honest> Keeper for ToldKeeper<S> {
-    ghost use Rattle.std.specs.Prelude.{◌++◌, Some, IfOk, IfSome, OnOk, OnErr, IsErrOf, IsPermutation};
-    ghost use Rattle.std.specs.Option.{option_map};
-    ghost use Rattle.rm_catalog.specs.Edits.{after_edits};
-    ghost use Rattle.rm_catalog.specs.Faults.{Answers};
-    ghost use Rattle.rm_catalog.specs.Keys.{Ascends};
-    ghost use Rattle.rm_keeper_sql.specs.Shelves.{numbered, records_at};
-    ghost use Rattle.rm_keeper_sql.specs.SqlKeeper.{number_of};
+    ghost use Rattle.std.specs.{Prelude.{◌++◌, Some, IfOk, IfSome, OnOk, OnErr, IsErrOf, IsPermutation}, Option.{option_map}};
+    ghost use Rattle.rm_catalog.specs.{Edits.{after_edits}, Faults.{Answers}, Keys.{Ascends}};
+    ghost use Rattle.rm_keeper_sql.specs.{Shelves.{numbered, records_at}, SqlKeeper.{number_of}};
     ghost use Rattle.rm_keeper_sql.specs.ToldKeeper.{log_of, keeper_of, told_by, faults_told};
 
     ghost kept = { λ k. Some (told_by k) };

@@ -1,14 +1,9 @@
 -- How many bits are set, bit by bit.
+use Rattle.std.specs.{Int.{bit_at}, List.{range_with_len}, Simd.Lanes.{mask_l}}
 use Rattle.std.proofs.Common.{◌≡◌, inl, inr, ℕ, zero, suc, ◌-◌, ◌*◌, ◌/◌, ◌%◌, ◌<◌, ◌^◌, ◌==◌, Bool, false, cond, List, [], ◌∷◌, ◌++◌, length, map, get_or, slice_index, count_by, count_ones, refl, ap, sym, ◌∙◌, arith, length-append, All, Fits, w8}
-use Rattle.std.specs.Int.{bit_at}
-use Rattle.std.specs.List.{range_with_len}
-use Rattle.std.specs.Simd.Lanes.{mask_l}
-use Rattle.std.proofs.lemmas.Bool.{cases_lt}
-use Rattle.std.proofs.lemmas.List.{get_or-append_right, get_or_append_left, get_or_past}
-use Rattle.std.proofs.lemmas.List.FromFn.{fill_by_all, get_or-map-range_with_len}
-use Rattle.std.proofs.lemmas.List.Sums.{sum_by-append, sum_by-cons}
-use Rattle.std.proofs.lemmas.Nat.Bits.{bit_at-lt, bit_at-zero, same_from_bits_below}
-use Rattle.std.proofs.lemmas.Simd.{bit_mask_l, mask_l-lt, ones-mask_l}
+use Rattle.std.proofs.lemmas.{Bool.{cases_lt}, List.{get_or-append_right, get_or_append_left, get_or_past}}
+use Rattle.std.proofs.lemmas.List.{FromFn.{fill_by_all, get_or-map-range_with_len}, Sums.{sum_by-append, sum_by-cons}}
+use Rattle.std.proofs.lemmas.{Nat.Bits.{bit_at-lt, bit_at-zero, same_from_bits_below}, Simd.{bit_mask_l, mask_l-lt, ones-mask_l}}
 use Rattle.rm_lanes.specs.Bits.{is_set, set_count}
 
 abbrev pub itself : Bool → Bool

@@ -1,8 +1,7 @@
 -- How many bits are set, by lanes.
-use Rattle.std.proofs.Common.{◌≡◌, ℕ, ◌+◌, ◌*◌, ◌<◌, ◌≤◌, ◌^◌, List, [], ◌∷◌, map, length, count_ones, take, get_or, take-add, ap, sym, ◌∙◌, arith, refl, Fits, w8, w64}
 use Rattle.std.specs.Simd.Lanes.{Each1, chunk, fold_l, sum_l, Steps}
-use Rattle.std.proofs.lemmas.Simd.{fold-sum, sum_fits, chunk-fits, length-chunk, map-map, Each1-from_get_or}
-use Rattle.std.proofs.lemmas.Nat.{ones-le}
+use Rattle.std.proofs.Common.{◌≡◌, ℕ, ◌+◌, ◌*◌, ◌<◌, ◌≤◌, ◌^◌, List, [], ◌∷◌, map, length, count_ones, take, get_or, take-add, ap, sym, ◌∙◌, arith, refl, Fits, w8, w64}
+use Rattle.std.proofs.lemmas.{Simd.{fold-sum, sum_fits, chunk-fits, length-chunk, map-map, Each1-from_get_or}, Nat.{ones-le}}
 use Rattle.std.proofs.lemmas.List.Sums.{sum_by-cons, sum_by-append, sum_by-take-le}
 use Rattle.rm_lanes.specs.Bits.{set_count}
 

@@ -1,8 +1,7 @@
 -- What `==` of two vectors of bytes tells.
-use Rattle.std.proofs.Common.{◌≡◌, ℕ, ◌-◌, ◌≤◌, ◌%◌, ◌^◌, List, [], ◌∷◌, Bool, cond, not, map, length, eqb, ap, sym, ◌∙◌, arith, refl, eqb-true, eq-eqb, inl, inr, w8, IsTrue, nat_eq, ◌↔◌}
 use Rattle.std.specs.Simd.Lanes.{zip2, mask_l, top}
-use Rattle.std.proofs.lemmas.Simd.{tops_compared, mask_l-mod, length-zip2}
-use Rattle.std.proofs.lemmas.Bool.{cases_Bool}
+use Rattle.std.proofs.Common.{◌≡◌, ℕ, ◌-◌, ◌≤◌, ◌%◌, ◌^◌, List, [], ◌∷◌, Bool, cond, not, map, length, eqb, ap, sym, ◌∙◌, arith, refl, eqb-true, eq-eqb, inl, inr, w8, IsTrue, nat_eq, ◌↔◌}
+use Rattle.std.proofs.lemmas.{Simd.{tops_compared, mask_l-mod, length-zip2}, Bool.{cases_Bool}}
 
 -- whether two bytes differ
 abbrev differ : ℕ → ℕ → Bool

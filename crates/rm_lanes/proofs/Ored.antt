@@ -1,6 +1,6 @@
 -- A list whose first bytes are or-ed with those of another.
-use Rattle.std.proofs.Common.{◌≡◌, ℕ, ◌+◌, ◌-◌, ◌<◌, ◌≤◌, List, [], ◌∷◌, length, bit_or, slice_index, ap, sym, ◌∙◌, arith, refl, ◌⊎◌, inl, inr}
 use Rattle.std.specs.Simd.Lanes.{zip2, put_chunk, chunk}
+use Rattle.std.proofs.Common.{◌≡◌, ℕ, ◌+◌, ◌-◌, ◌<◌, ◌≤◌, List, [], ◌∷◌, length, bit_or, slice_index, ap, sym, ◌∙◌, arith, refl, ◌⊎◌, inl, inr}
 use Rattle.std.proofs.lemmas.Simd.{length-zip2, get_or-zip2, get_or-chunk, length-chunk, length-put_chunk, get_or-put_chunk_below, get_or-put_chunk_at, get_or-put_chunk_above}
 use Rattle.std.proofs.lemmas.Grind.{same_number_lists}
 use Rattle.rm_lanes.specs.Bits.{bitwise_or}

@@ -1,9 +1,7 @@
 -- Bits of lists of bytes: those of an or, and the next one.
-use Rattle.std.proofs.Common.{◌≡◌, ◌⊎◌, ◌↔◌, inl, inr, ℕ, zero, suc, ◌*◌, ◌/◌, ◌%◌, ◌<◌, ◌^◌, ◌==◌, ◌||◌, Bool, true, false, List, [], ◌∷◌, length, slice_index, max, bit_or, refl, ap, sym, ◌∙◌, arith, eqb-true}
 use Rattle.std.specs.Int.{bit_at}
-use Rattle.std.proofs.lemmas.Bool.{cases_Bool, cases_lt, eqb-false}
-use Rattle.std.proofs.lemmas.Nat.{pow_pos}
-use Rattle.std.proofs.lemmas.Nat.Bits.{and_pow, bit_at-lt, bit_at_or}
+use Rattle.std.proofs.Common.{◌≡◌, ◌⊎◌, ◌↔◌, inl, inr, ℕ, zero, suc, ◌*◌, ◌/◌, ◌%◌, ◌<◌, ◌^◌, ◌==◌, ◌||◌, Bool, true, false, List, [], ◌∷◌, length, slice_index, max, bit_or, refl, ap, sym, ◌∙◌, arith, eqb-true}
+use Rattle.std.proofs.lemmas.{Bool.{cases_Bool, cases_lt, eqb-false}, Nat.{pow_pos, Bits.{and_pow, bit_at-lt, bit_at_or}}}
 use Rattle.rm_lanes.specs.Bits.{IsNextSet, IsSet, bitwise_or, is_set}
 
 max-or : (u v : ℕ) → u < 2 → v < 2 → (max u v == 1) ≡ ((u == 1) || (v == 1))

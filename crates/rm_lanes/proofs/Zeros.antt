@@ -1,9 +1,7 @@
 -- Bytes that are zero, and bytes that have a bit.
-use Rattle.std.proofs.Common.{◌≡◌, ◌≢◌, ℕ, ◌+◌, ◌-◌, ◌*◌, ◌<◌, ◌≤◌, ◌^◌, List, take, drop, replicate, slice_index, IsBitSet, ap, sym, ◌∙◌, arith, Fits, w8}
 use Rattle.std.specs.Int.{trailing_zeros}
-use Rattle.std.proofs.lemmas.Simd.{get_or-chunk, get_or-replicate}
-use Rattle.std.proofs.lemmas.Nat.{pow_pos}
-use Rattle.std.proofs.lemmas.Nat.Bits.{bit_at-trailing_zeros, and_pow}
+use Rattle.std.proofs.Common.{◌≡◌, ◌≢◌, ℕ, ◌+◌, ◌-◌, ◌*◌, ◌<◌, ◌≤◌, ◌^◌, List, take, drop, replicate, slice_index, IsBitSet, ap, sym, ◌∙◌, arith, Fits, w8}
+use Rattle.std.proofs.lemmas.{Simd.{get_or-chunk, get_or-replicate}, Nat.{pow_pos, Bits.{bit_at-trailing_zeros, and_pow}}}
 
 -- each byte of a part that is zero is zero
 pub zero_at : (n i : ℕ) (xs : List ℕ) → take n (drop i xs) ≡ replicate n 0 → (k : ℕ) → i ≤ k → k < i + n → slice_index xs k ≡ 0

@@ -1,6 +1,5 @@
 //! What bits of lists of bytes come to. A byte is below 2^8.
-ghost use Rattle.std.specs.Prelude.{ℕ, ◌≡◌, ◌*◌, ◌<◌, ◌^◌, ◌↔◌, ◌⊎◌, All, List, count_by, length, true};
-ghost use Rattle.std.specs.List.{range_with_len};
+ghost use Rattle.std.specs.{Prelude.{ℕ, ◌≡◌, ◌*◌, ◌<◌, ◌^◌, ◌↔◌, ◌⊎◌, All, List, count_by, length, true}, List.{range_with_len}};
 ghost use Rattle.rm_lanes.specs.Bits.{IsNextSet, IsSet, NoneSet, bitwise_or, is_set, set_count};
 
 /// Of two lists of one length, the bits that are set in either one are those of their bitwise or.

@@ -1,29 +1,21 @@
 -- A backup and what it says.
+use Rattle.std.specs.{Prelude.{is_some}, List.{list_all}, Option.{option_map}}
 use Rattle.std.proofs.Common.{◌≡◌, refl, ap, sym, subst, ◌∙◌, cond, ℕ, List, [], ◌∷◌, Option, Some, None, Bool, true, false, ◌&&◌, ◌||◌, not, map}
-use Rattle.std.specs.Prelude.{is_some}
-use Rattle.std.specs.List.{list_all}
-use Rattle.std.specs.Option.{option_map}
 use Rattle.std.proofs.lemmas.Bool.{and_parts, and_from}
 use Rattle.rm_lang_grammar.specs.Grammar.{Choice, first, second, Values, in_range}
 use Rattle.rm_lang_grammar.specs.Spelling.{is_capital_tag, is_shown, is_some_list, maybe_valid, one_valid, valid}
 use Rattle.rm_lang_grammar.proofs.Found.{some_same}
-use Rattle.rm_lang_reading.specs.declared.backup.BackupAs.{BackupAs}
-use Rattle.rm_lang_reading.specs.declared.backup.BackupAs.TheVariants.{Copy, Sets}
-use Rattle.rm_lang_reading.specs.declared.backup.Increment.{Increment}
-use Rattle.rm_lang_reading.specs.declared.backup.Increment.TheVariants.{Level as OfLevel, From as FromScn}
-use Rattle.rm_lang_statement.specs.declared.command.WriteForm.{WriteForm}
-use Rattle.rm_lang_statement.specs.declared.command.BackupForm.{BackupForm}
-use Rattle.rm_lang_statement.specs.declared.command.Command.{Command}
-use Rattle.rm_lang_statement.specs.declared.command.Command.TheVariants.{Backup, BackupFrom}
-use Rattle.rm_lang_statement.specs.Named.{in_order, are_named}
-use Rattle.rm_lang_statement.specs.Texts.{content}
 use Rattle.rm_lang_reading.specs.Creating.{write_part, written}
 use Rattle.rm_lang_reading.specs.Backups.{as_line, kind_of, is_copy, increment_line, increment_of, number_of, is_cumulative, merge_line, merge_tag_of, database_line, files_line, files_of, sets_line, per_set_of, tag_line, tag_of, keep_line, during_line, during_of, backup_line, backup_of, agreed, is_plain, saved}
-use Rattle.rm_lang_statement.specs.Agreed.{is_one, agrees_in_level, agrees_in_merge, agrees_in_sets, agrees}
-use Rattle.rm_lang_statement.specs.IsCommand.{is_write, is_backup, is_command}
 use Rattle.rm_lang_reading.specs.Values.{write_values, kind_values, kind_asked, increment_values, level_asked, merge_values, files_values, sets_values, tag_values, keep_values, during_values, backup_values}
+use Rattle.rm_lang_reading.specs.declared.backup.{BackupAs.{BackupAs, TheVariants.{Copy, Sets}}, Increment.{Increment}}
+use Rattle.rm_lang_reading.specs.declared.backup.Increment.TheVariants.{Level as OfLevel, From as FromScn}
 use Rattle.rm_lang_reading.proofs.InOrder.{in_order-named, named-in_order}
 use Rattle.rm_lang_reading.proofs.Parts.{copy_again, merge_again, files_again, sets_again, tag_again, keep_again, during_again}
+use Rattle.rm_lang_statement.specs.{Named.{in_order, are_named}, Texts.{content}}
+use Rattle.rm_lang_statement.specs.Agreed.{is_one, agrees_in_level, agrees_in_merge, agrees_in_sets, agrees}
+use Rattle.rm_lang_statement.specs.{IsCommand.{is_write, is_backup, is_command}, declared.command.WriteForm.{WriteForm}}
+use Rattle.rm_lang_statement.specs.declared.command.{BackupForm.{BackupForm}, Command.{Command, TheVariants.{Backup, BackupFrom}}}
 
 -- files that are in order stay so
 files_kept : (o : Option (List ℕ)) → maybe_valid are_named o ≡ true → option_map in_order o ≡ o

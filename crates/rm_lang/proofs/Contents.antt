@@ -1,16 +1,10 @@
 -- A VALUE and the content that it has.
+use Rattle.std.specs.{Prelude.{nat_le}, List.{list_all}}
 use Rattle.std.proofs.Common.{◌≡◌, refl, ap, sym, subst, ◌∙◌, cond, arith, ◌==◌, ◌≤◌, ◌+◌, ◌-◌, ◌++◌, ℕ, zero, suc, List, [], ◌∷◌, Some, None, Bool, true, false, length, replicate}
-use Rattle.std.specs.Prelude.{nat_le}
-use Rattle.std.specs.List.{list_all}
-use Rattle.std.proofs.lemmas.Bool.{and_parts, and_from, cond_both, le-leb, eqb-true}
-use Rattle.std.proofs.lemmas.Bool.Decides.{nat_tests}
-use Rattle.std.proofs.lemmas.Option.{same_Some}
+use Rattle.std.proofs.lemmas.{Bool.{and_parts, and_from, cond_both, le-leb, eqb-true, Decides.{nat_tests}}, Option.{same_Some}}
 use Rattle.rm_base.specs.Content.{onto, padded, trimmed}
-use Rattle.rm_lang_token.specs.Tokens.{is_string_byte}
-use Rattle.rm_lang_token.specs.Spelling.{are_string_bytes}
-use Rattle.rm_lang_grammar.specs.Grammar.{kept_of}
-use Rattle.rm_lang_grammar.specs.Spelling.{IsFaithful, is_shown}
-use Rattle.rm_lang_grammar.proofs.Spelled.{same_keeps, keeps_same}
+use Rattle.rm_lang_token.specs.{Tokens.{is_string_byte}, Spelling.{are_string_bytes}}
+use Rattle.rm_lang_grammar.{specs.{Grammar.{kept_of}, Spelling.{IsFaithful, is_shown}}, proofs.Spelled.{same_keeps, keeps_same}}
 use Rattle.rm_lang_statement.specs.Texts.{content}
 
 trimmed-zeros : (n : ℕ) → trimmed (replicate n 0) ≡ []

@@ -1,32 +1,26 @@
 -- Which commands are statements: what each form means passes the test.
-use Rattle.std.proofs.Common.{◌≡◌, refl, subst, sym, ◌==◌, ◌-◌, ◌^◌, ◌&&◌, ◌||◌, ℕ, List, Option, Some, None, Bool, true, false, codes}
 use Rattle.std.specs.Option.{option_map}
+use Rattle.std.proofs.Common.{◌≡◌, refl, subst, sym, ◌==◌, ◌-◌, ◌^◌, ◌&&◌, ◌||◌, ℕ, List, Option, Some, None, Bool, true, false, codes}
 use Rattle.std.proofs.lemmas.Bool.{and_parts, and_from, eqb-true}
 use Rattle.rm_lang_grammar.specs.Grammar.{◌▸◌, word, end, Values, Choice, first, second, in_range}
-use Rattle.rm_lang_grammar.specs.Spelling.{is_shown, is_capital_tag, maybe_valid, one_valid, valid, AreFaithful}
-use Rattle.rm_lang_grammar.proofs.Found.{some_same}
+use Rattle.rm_lang_grammar.{specs.Spelling.{is_shown, is_capital_tag, maybe_valid, one_valid, valid, AreFaithful}, proofs.Found.{some_same}}
 use Rattle.rm_lang_grammar.proofs.Statements.{Passes, AllPass}
 use Rattle.rm_moments.specs.Times.{is_time_text}
-use Rattle.rm_lang_reading.specs.declared.upkeep.Deletion.{Deletion}
-use Rattle.rm_lang_reading.specs.declared.upkeep.Deletion.TheVariants.{Obsolete, One, Expired}
-use Rattle.rm_lang_statement.specs.declared.command.Until.{Until}
-use Rattle.rm_lang_statement.specs.declared.command.Command.{Command}
-use Rattle.rm_lang_statement.specs.declared.command.Command.TheVariants.{CreateDatabase, CreateDatafile, Write, SwitchLogfile, ArchiveLogCurrent, Mount, Tracking, SwitchThread, ResetDatabase, Restore, RecoverCopy, BackupLogs, Crosscheck, ValidateAll, ChangeBackup, ReportObsolete, ReportNeedBackup, ReportSchema, ListIncarnation, ListBackup, ListCopy, ListArchived, ShowAll, Dump, Retention, Parallelism, CatalogName, LoseDatafile, LoseLog, Remove, Damage, Cut, Rename, Corrupt, ListCorruption, BlockRecover}
-use Rattle.rm_lang_statement.specs.IsCommand.{is_command, is_until_or_none, is_retention}
 use Rattle.rm_lang_reading.specs.Language.{mishap_forms, setting_forms, asking_forms, upkeep_forms, backup_forms, repair_forms, recovery_forms, mode_forms, switch_forms, forms}
-use Rattle.rm_lang_statement.specs.Texts.{content, anything, plain, is_new_name, new_name, is_text}
 use Rattle.rm_lang_reading.specs.Creating.{create_database, write, written, create_datafile, switch_logfile, archive_log, track, untrack, enable_thread, disable_thread}
 use Rattle.rm_lang_reading.specs.Modes.{shutdown, startup, reset_database, open_database, open_command}
 use Rattle.rm_lang_reading.specs.Recovering.{until_line, until_of, incarnation_line, incarnation_of, restoring, restore, restore_datafile, recovery, recover, recover_copy}
-use Rattle.rm_lang_reading.specs.Repairs.{block_recover, repair_of}
-use Rattle.rm_lang_reading.specs.Backups.{backup, backup_logs}
+use Rattle.rm_lang_reading.specs.{Repairs.{block_recover, repair_of}, Backups.{backup, backup_logs}}
 use Rattle.rm_lang_reading.specs.Upkeep.{class_by, crosscheck, validate, change_by, change, deletion_by, deleting, delete}
 use Rattle.rm_lang_reading.specs.Asking.{report_obsolete, report_need_backup, report_schema, list_incarnation, list_backup, list_copy, list_archived, list_corruption, show, dump}
 use Rattle.rm_lang_reading.specs.Settings.{window_part, redundancy_part, redundancy_or_none, policy_part, redundancy_or_none_by, policy_by, retention_by, retention, parallelism, catalog}
 use Rattle.rm_lang_reading.specs.Mishaps.{lose_datafile, lose_log, corrupt, remove, damage, cut, rename}
-use Rattle.rm_lang.proofs.Contents.{content-faithful}
-use Rattle.rm_lang.proofs.Strings.{tested-faithful, tested-shown, until_passes}
-use Rattle.rm_lang.proofs.Backups.{backup_passes}
+use Rattle.rm_lang_reading.specs.declared.upkeep.Deletion.{Deletion, TheVariants.{Obsolete, One, Expired}}
+use Rattle.rm_lang_statement.specs.IsCommand.{is_command, is_until_or_none, is_retention}
+use Rattle.rm_lang_statement.specs.{Texts.{content, anything, plain, is_new_name, new_name, is_text}, declared.command.Until.{Until}}
+use Rattle.rm_lang_statement.specs.declared.command.Command.{Command}
+use Rattle.rm_lang_statement.specs.declared.command.Command.TheVariants.{CreateDatabase, CreateDatafile, Write, SwitchLogfile, ArchiveLogCurrent, Mount, Tracking, SwitchThread, ResetDatabase, Restore, RecoverCopy, BackupLogs, Crosscheck, ValidateAll, ChangeBackup, ReportObsolete, ReportNeedBackup, ReportSchema, ListIncarnation, ListBackup, ListCopy, ListArchived, ShowAll, Dump, Retention, Parallelism, CatalogName, LoseDatafile, LoseLog, Remove, Damage, Cut, Rename, Corrupt, ListCorruption, BlockRecover}
+use Rattle.rm_lang.proofs.{Contents.{content-faithful}, Strings.{tested-faithful, tested-shown, until_passes}, Backups.{backup_passes}}
 use Rattle.rm_lang.proofs.Repairs.{repair_passes}
 
 -- the command that a form means passes the test

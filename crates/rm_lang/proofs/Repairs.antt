@@ -1,18 +1,12 @@
 -- A repair and what it says.
-use Rattle.std.proofs.Common.{◌≡◌, refl, ap, ◌∙◌, ℕ, List, [], ◌∷◌, Option, Some, None, true, ◌&&◌}
-use Rattle.std.specs.List.{list_all}
-use Rattle.std.specs.Option.{option_map}
-use Rattle.std.proofs.lemmas.Bool.{and_parts, and_from}
-use Rattle.rm_lang_grammar.specs.Grammar.{Choice, first, second, Values}
-use Rattle.rm_lang_grammar.specs.Spelling.{is_some_list, maybe_valid, one_valid, valid}
-use Rattle.rm_lang_statement.specs.declared.command.NamedBlocks.{NamedBlocks}
-use Rattle.rm_lang_statement.specs.declared.command.RepairForm.{RepairForm}
-use Rattle.rm_lang_statement.specs.Named.{are_named}
-use Rattle.rm_lang_statement.specs.IsCommand.{is_named, is_repair, is_write}
+use Rattle.std.specs.{List.{list_all}, Option.{option_map}}
+use Rattle.std.proofs.{Common.{◌≡◌, refl, ap, ◌∙◌, ℕ, List, [], ◌∷◌, Option, Some, None, true, ◌&&◌}, lemmas.Bool.{and_parts, and_from}}
+use Rattle.rm_lang_grammar.specs.{Grammar.{Choice, first, second, Values}, Spelling.{is_some_list, maybe_valid, one_valid, valid}}
+use Rattle.rm_lang_statement.specs.{Named.{are_named}, IsCommand.{is_named, is_repair, is_write}}
+use Rattle.rm_lang_statement.specs.declared.command.{NamedBlocks.{NamedBlocks}, RepairForm.{RepairForm}}
 use Rattle.rm_lang_reading.specs.Backups.{during_line, during_of}
 use Rattle.rm_lang_reading.specs.Repairs.{corruption_line, blocks_line, blocks_of, ordered, block_recover_line, repair_of}
-use Rattle.rm_lang_reading.specs.Values.{blocks_values, repair_values}
-use Rattle.rm_lang_reading.proofs.InOrder.{in_order-named, named-in_order}
+use Rattle.rm_lang_reading.{specs.Values.{blocks_values, repair_values}, proofs.InOrder.{in_order-named, named-in_order}}
 use Rattle.rm_lang_reading.proofs.Parts.{blocks_again, during_again}
 use Rattle.rm_lang.proofs.Backups.{during_valid, during_passes}
 

@@ -1,18 +1,14 @@
 -- Strings that are kept as they stand, and points.
-use Rattle.std.proofs.Common.{◌≡◌, refl, subst, cond, ℕ, List, Option, Some, None, Bool, true, false, ◌&&◌}
-use Rattle.std.specs.Option.{option_map}
+use Rattle.std.{specs.Option.{option_map}, proofs.Common.{◌≡◌, refl, subst, cond, ℕ, List, Option, Some, None, Bool, true, false, ◌&&◌}}
 use Rattle.std.proofs.lemmas.Bool.{and_parts}
 use Rattle.rm_lang_token.specs.Spelling.{are_string_bytes}
 use Rattle.rm_lang_grammar.specs.Grammar.{kept_of, Choice, first, second, Values}
-use Rattle.rm_lang_grammar.specs.Spelling.{IsFaithful, is_shown, valid, one_valid, maybe_valid}
-use Rattle.rm_lang_grammar.proofs.Found.{some_same}
+use Rattle.rm_lang_grammar.{specs.Spelling.{IsFaithful, is_shown, valid, one_valid, maybe_valid}, proofs.Found.{some_same}}
 use Rattle.rm_lang_grammar.proofs.Spelled.{same_keeps, keeps_same}
 use Rattle.rm_moments.specs.Times.{is_time_text}
-use Rattle.rm_lang_statement.specs.declared.command.Until.{Until}
-use Rattle.rm_lang_statement.specs.declared.command.Until.TheVariants.{Scn, Sequence, Time}
-use Rattle.rm_lang_statement.specs.Texts.{tested, anything, is_text, time}
+use Rattle.rm_lang_statement.specs.{Texts.{tested, anything, is_text, time}, IsCommand.{is_until, is_until_or_none}}
+use Rattle.rm_lang_statement.specs.declared.command.Until.{Until, TheVariants.{Scn, Sequence, Time}}
 use Rattle.rm_lang_reading.specs.Recovering.{scn_part, sequence_part, time_part, log_or_time, until_line, until_by, until_of, incarnation_line}
-use Rattle.rm_lang_statement.specs.IsCommand.{is_until, is_until_or_none}
 use Rattle.rm_lang_reading.specs.Values.{until_choice, until_values, incarnation_values}
 
 kept_parts : (a b : Bool) (w v : List ℕ) → cond a (cond b (Some w) None) None ≡ Some v → (a && b ≡ true) × (w ≡ v)

@@ -1,40 +1,30 @@
 -- The tokens of a command that passes the test are the command.
-use Rattle.std.proofs.Common.{◌≡◌, refl, ◌-◌, ◌^◌, ◌&&◌, ◌++◌, ℕ, List, Some, None, true, false}
-use Rattle.std.specs.Option.{option_map}
+use Rattle.std.{specs.Option.{option_map}, proofs.Common.{◌≡◌, refl, ◌-◌, ◌^◌, ◌&&◌, ◌++◌, ℕ, List, Some, None, true, false}}
 use Rattle.std.proofs.lemmas.Bool.{and_parts, and_from}
-use Rattle.rm_base.specs.declared.kinds.Class.{Class}
-use Rattle.rm_base.specs.declared.kinds.Class.TheVariants.{Backup as BackupClass, Copy as CopyClass, Archived}
+use Rattle.rm_base.specs.declared.kinds.Class.{Class, TheVariants.{Backup as BackupClass, Copy as CopyClass, Archived}}
 use Rattle.rm_lang_token.specs.declared.token.Token.{Token}
-use Rattle.rm_lang_grammar.specs.Forms.{IsByOne}
-use Rattle.rm_lang_grammar.specs.Grammar.{in_range}
-use Rattle.rm_lang_grammar.specs.Spelling.{is_shown, is_capital_tag, maybe_valid, valid}
+use Rattle.rm_lang_grammar.specs.{Forms.{IsByOne}, Grammar.{in_range}, Spelling.{is_shown, is_capital_tag, maybe_valid, valid}}
 use Rattle.rm_lang_grammar.proofs.Statements.{by_values}
-use Rattle.rm_lang_reading.specs.declared.upkeep.Deletion.{Deletion}
-use Rattle.rm_lang_reading.specs.declared.upkeep.Deletion.TheVariants.{Obsolete, One, Expired}
-use Rattle.rm_lang_statement.specs.declared.command.ChangeTo.{ChangeTo}
-use Rattle.rm_lang_statement.specs.declared.command.ChangeTo.TheVariants.{Available, Unavailable, Uncatalog, Keep, NoKeep}
-use Rattle.rm_lang_statement.specs.declared.command.RetentionForm.{RetentionForm}
-use Rattle.rm_lang_statement.specs.declared.command.RetentionForm.TheVariants.{Window, Redundancy, Nothing, Clear}
-use Rattle.rm_lang_statement.specs.declared.command.Command.{Command}
-use Rattle.rm_lang_statement.specs.declared.command.Command.TheVariants.{CreateDatabase, CreateDatafile, Write, SwitchLogfile, ArchiveLogCurrent, Mount, OpenPlain, OpenResetlogs, Tracking, SwitchThread, ResetDatabase, Restore, Preview, Recover, RecoverTest, RecoverCopy, Backup, BackupFrom, BackupLogs, Crosscheck, ValidateAll, ChangeBackup, DeleteObsolete, DeleteBackup, DeleteExpired, ReportObsolete, ReportNeedBackup, ReportSchema, ListIncarnation, ListBackup, ListCopy, ListArchived, ShowAll, Dump, Retention, Parallelism, CatalogName, LoseDatafile, LoseLog, Remove, Damage, Cut, Rename, Corrupt, ListCorruption, BlockRecover}
-use Rattle.rm_lang_statement.specs.IsCommand.{is_command, is_until_or_none, is_retention}
 use Rattle.rm_lang_reading.specs.Language.{mishap_forms, setting_forms, asking_forms, upkeep_forms, backup_forms, repair_forms, recovery_forms, mode_forms, switch_forms, forms}
 use Rattle.rm_lang_reading.specs.Values.{write_values, until_values, incarnation_values, backup_values, from_values, repair_values, class_choice, change_choice, deletion_choice, retention_choice}
-use Rattle.rm_lang.specs.Spelling.{tokens_of}
-use Rattle.rm_lang_statement.specs.Texts.{content, anything, plain, is_new_name, new_name, is_text}
 use Rattle.rm_lang_reading.specs.Creating.{create_database, write, create_datafile, switch_logfile, archive_log, track, untrack, enable_thread, disable_thread}
 use Rattle.rm_lang_reading.specs.Modes.{shutdown, startup, reset_database, open_database}
-use Rattle.rm_lang_reading.specs.Recovering.{until_line, restore, restore_datafile, recover, recover_copy}
-use Rattle.rm_lang_reading.specs.Repairs.{block_recover}
+use Rattle.rm_lang_reading.specs.{Recovering.{until_line, restore, restore_datafile, recover, recover_copy}, Repairs.{block_recover}}
 use Rattle.rm_lang_reading.specs.Backups.{backup, backup_logs}
 use Rattle.rm_lang_reading.specs.Upkeep.{crosscheck, crosscheck_line, validate, change, change_line, delete, delete_line}
 use Rattle.rm_lang_reading.specs.Asking.{report_obsolete, report_need_backup, report_schema, list_incarnation, list_backup, list_copy, list_archived, list_corruption, show, dump}
 use Rattle.rm_lang_reading.specs.Settings.{retention, retention_line, parallelism, catalog}
 use Rattle.rm_lang_reading.specs.Mishaps.{lose_datafile, lose_log, corrupt, remove, damage, cut, rename}
-use Rattle.rm_lang.proofs.Strings.{shown-tested, until_valid, incarnation_valid}
-use Rattle.rm_lang.proofs.Backups.{backup_valid, backup_means}
-use Rattle.rm_lang.proofs.Repairs.{repair_valid, repair_again}
+use Rattle.rm_lang_reading.specs.declared.upkeep.Deletion.{Deletion, TheVariants.{Obsolete, One, Expired}}
 use Rattle.rm_lang_reading.proofs.Parts.{until_again, incarnation_again, class_again, change_again, retention_again}
+use Rattle.rm_lang_statement.specs.IsCommand.{is_command, is_until_or_none, is_retention}
+use Rattle.rm_lang_statement.specs.{Texts.{content, anything, plain, is_new_name, new_name, is_text}, declared.command.ChangeTo.{ChangeTo}}
+use Rattle.rm_lang_statement.specs.declared.command.ChangeTo.TheVariants.{Available, Unavailable, Uncatalog, Keep, NoKeep}
+use Rattle.rm_lang_statement.specs.declared.command.RetentionForm.{RetentionForm, TheVariants.{Window, Redundancy, Nothing, Clear}}
+use Rattle.rm_lang_statement.specs.declared.command.Command.{Command}
+use Rattle.rm_lang_statement.specs.declared.command.Command.TheVariants.{CreateDatabase, CreateDatafile, Write, SwitchLogfile, ArchiveLogCurrent, Mount, OpenPlain, OpenResetlogs, Tracking, SwitchThread, ResetDatabase, Restore, Preview, Recover, RecoverTest, RecoverCopy, Backup, BackupFrom, BackupLogs, Crosscheck, ValidateAll, ChangeBackup, DeleteObsolete, DeleteBackup, DeleteExpired, ReportObsolete, ReportNeedBackup, ReportSchema, ListIncarnation, ListBackup, ListCopy, ListArchived, ShowAll, Dump, Retention, Parallelism, CatalogName, LoseDatafile, LoseLog, Remove, Damage, Cut, Rename, Corrupt, ListCorruption, BlockRecover}
+use Rattle.rm_lang.{specs.Spelling.{tokens_of}, proofs.Strings.{shown-tested, until_valid, incarnation_valid}}
+use Rattle.rm_lang.proofs.{Backups.{backup_valid, backup_means}, Repairs.{repair_valid, repair_again}}
 
 names_valid : (old new : List ℕ) → (is_text anything old && is_text is_new_name new) ≡ true → (is_shown plain old && (is_shown new_name new && true)) ≡ true
 names_valid old new h =

@@ -1,36 +1,21 @@
 -- Which statements are spelled, and what their tokens are.
+use Rattle.std.specs.{Prelude.{◌↔◌}, List.{list_all, flat_map}}
 use Rattle.std.proofs.Common.{◌≡◌, refl, ap, sym, subst, inr, ℕ, List, [], ◌∷◌, ◌++◌, append-nil, append_assoc, Some, None, true, codes, Result, Ok, Err, IfOk}
-use Rattle.std.specs.Prelude.{◌↔◌}
-use Rattle.std.specs.List.{list_all, flat_map}
 use Rattle.std.proofs.lemmas.Bool.{and_parts, and_from}
 use Rattle.rm_base.specs.declared.faults.NoMemory.{NoMemory}
-use Rattle.rm_lang_token.specs.declared.token.Token.{Token}
+use Rattle.rm_lang_token.specs.{Statements.{statements}, Spelling.{is_statement as is_one}, declared.token.Token.{Token}}
 use Rattle.rm_lang_token.specs.declared.token.Token.TheVariants.{Word, Sign}
-use Rattle.rm_lang_token.specs.Statements.{statements}
-use Rattle.rm_lang_token.specs.Spelling.{is_statement as is_one}
-use Rattle.rm_lang_grammar.specs.Grammar.{SpellsMany}
-use Rattle.rm_lang_grammar.specs.Spelling.{one_valid, valid}
-use Rattle.rm_lang_grammar.specs.Forms.{IsByOne}
-use Rattle.rm_lang_grammar.proofs.Statements.{by_values, passes, Passes, AllPass}
-use Rattle.rm_lang_grammar.proofs.Within.{one_as, pass_as}
-use Rattle.rm_lang_grammar.proofs.Endings.{arrives, join, quiet_arrives, line_statement, is_one_statement}
-use Rattle.rm_lang_statement.specs.declared.command.Until.{Until}
-use Rattle.rm_lang_statement.specs.declared.command.Inner.{Inner}
+use Rattle.rm_lang_grammar.specs.{Grammar.{SpellsMany}, Spelling.{one_valid, valid}, Forms.{IsByOne}}
+use Rattle.rm_lang_grammar.proofs.{Statements.{by_values, passes, Passes, AllPass}, Within.{one_as, pass_as}}
+use Rattle.rm_lang_grammar.proofs.{Endings.{arrives, join, quiet_arrives, line_statement, is_one_statement}, Found.{some_same}}
+use Rattle.rm_lang_statement.specs.{IsCommand.{is_command, is_inner, is_statement}, declared.command.{Until.{Until}, Inner.{Inner}}}
 use Rattle.rm_lang_statement.specs.declared.command.Inner.TheVariants.{SetUntil, AllocateChannel, Plain as PlainInner}
-use Rattle.rm_lang_statement.specs.declared.command.Statement.{Statement}
-use Rattle.rm_lang_statement.specs.declared.command.Statement.TheVariants.{Plain, Run}
-use Rattle.rm_lang_statement.specs.IsCommand.{is_command, is_inner, is_statement}
+use Rattle.rm_lang_statement.specs.declared.command.Statement.{Statement, TheVariants.{Plain, Run}}
 use Rattle.rm_lang_reading.specs.Recovering.{scn_part, log_or_time}
 use Rattle.rm_lang_reading.specs.Language.{forms, set_until, set_until_line, allocate, allocate_line, inner_forms, IsStatement, IsSpelled, statement_at}
-use Rattle.rm_lang_reading.specs.Values.{until_choice, until_values}
-use Rattle.rm_lang.specs.Spelling.{tokens_of, inner_tokens, statement_tokens, ReadsAs}
-use Rattle.rm_lang.proofs.Strings.{choice_valid, choice_passes}
-use Rattle.rm_lang_reading.proofs.Parts.{choice_again}
-use Rattle.rm_lang.proofs.Telling.{tokens_of-is}
-use Rattle.rm_lang.proofs.Passing.{until_faithful, all_pass}
-use Rattle.rm_lang.proofs.Lines.{told}
-use Rattle.rm_lang_reading.proofs.Language.{statement_at-is}
-use Rattle.rm_lang_grammar.proofs.Found.{some_same}
+use Rattle.rm_lang_reading.{specs.Values.{until_choice, until_values}, proofs.{Parts.{choice_again}, Language.{statement_at-is}}}
+use Rattle.rm_lang.{specs.Spelling.{tokens_of, inner_tokens, statement_tokens, ReadsAs}, proofs.Strings.{choice_valid, choice_passes}}
+use Rattle.rm_lang.proofs.{Telling.{tokens_of-is}, Passing.{until_faithful, all_pass}, Lines.{told}}
 
 inner_is : (i : Inner) → is_inner i ≡ true → (rest : List Token) → IsByOne inner_forms i (inner_tokens i ++ rest) rest
 unfolding inner_forms set_until allocate

@@ -1,12 +1,10 @@
 //! The tokens of a write and of a backup.
-ghost use Rattle.std.specs.Prelude.{◌≡◌, codes, IfOk, IsTrue, map};
-ghost use Rattle.std.specs.Option.{option_map};
-ghost use Rattle.std.specs.List.{list_all};
+ghost use Rattle.std.specs.{Prelude.{◌≡◌, codes, IfOk, IsTrue, map}, Option.{option_map}, List.{list_all}};
 ghost use Rattle.rm_lang_grammar.specs.Spelling.{spelled, maybe_spelled, one_spelled, many_spelled, is_capital_tag, maybe_valid};
 ghost use Rattle.rm_lang_reading.specs.Creating.{write_part, write_line};
 ghost use Rattle.rm_lang_reading.specs.Backups.{as_line, increment_line, merge_line, database_line, files_line, sets_line, tag_line, keep_line, during_line, backup_line};
-ghost use Rattle.rm_lang_statement.specs.IsCommand.{is_write, is_backup};
 ghost use Rattle.rm_lang_reading.specs.Values.{write_values, kind_values, kind_asked, increment_values, level_asked, merge_values, files_values, sets_values, tag_values, keep_values, during_values, backup_values, from_values};
+ghost use Rattle.rm_lang_statement.specs.IsCommand.{is_write, is_backup};
 
 use rm_base::{NoMemory, Seq, Text};
 use rm_lang_grammar::Spelling;

@@ -1,13 +1,10 @@
 //! The tokens of the parts that statements have.
-ghost use Rattle.std.specs.Prelude.{◌≡◌, codes, IfOk, IsTrue};
-ghost use Rattle.std.specs.Option.{option_map};
-ghost use Rattle.rm_lang_grammar.specs.Grammar.{◌▸◌, word as word_part, end};
-ghost use Rattle.rm_lang_grammar.specs.Spelling.{spelled, maybe_spelled, one_spelled};
+ghost use Rattle.std.specs.{Prelude.{◌≡◌, codes, IfOk, IsTrue}, Option.{option_map}};
+ghost use Rattle.rm_lang_grammar.specs.{Grammar.{◌▸◌, word as word_part, end}, Spelling.{spelled, maybe_spelled, one_spelled}};
 ghost use Rattle.rm_lang_reading.specs.Recovering.{scn_part, log_or_time, until_line, incarnation_line};
-ghost use Rattle.rm_lang_reading.specs.Upkeep.{copy_or_archived, withdrawing};
-ghost use Rattle.rm_lang_reading.specs.Settings.{policy_part};
-ghost use Rattle.rm_lang_statement.specs.IsCommand.{is_until, is_until_or_none};
+ghost use Rattle.rm_lang_reading.specs.{Upkeep.{copy_or_archived, withdrawing}, Settings.{policy_part}};
 ghost use Rattle.rm_lang_reading.specs.Values.{until_choice, until_values, incarnation_values, class_choice, change_choice, retention_choice};
+ghost use Rattle.rm_lang_statement.specs.IsCommand.{is_until, is_until_or_none};
 
 use rm_base::{Class, NoMemory};
 use rm_lang_grammar::Spelling;

@@ -1,8 +1,7 @@
 //! The statement that tokens are.
 ghost use Rattle.std.specs.Prelude.{◌≡◌, IfOk, IfSome, IfNone, IsTrue};
-ghost use Rattle.rm_lang_statement.specs.declared.command.Statement.{Statement as StatementOf};
+ghost use Rattle.rm_lang_statement.specs.{IsCommand.{is_statement}, declared.command.Statement.{Statement as StatementOf}};
 ghost use Rattle.rm_lang_reading.specs.Language.{IsStatement, statement_at};
-ghost use Rattle.rm_lang_statement.specs.IsCommand.{is_statement};
 
 use rm_base::NoMemory;
 use rm_lang_grammar::Unread;

@@ -1,9 +1,8 @@
 //! The tokens of a repair of blocks.
 ghost use Rattle.std.specs.Prelude.{◌≡◌, IfOk, IsTrue};
 ghost use Rattle.rm_lang_grammar.specs.Spelling.{spelled, one_spelled};
-ghost use Rattle.rm_lang_reading.specs.Repairs.{corruption_line, blocks_line, block_recover_line};
+ghost use Rattle.rm_lang_reading.specs.{Repairs.{corruption_line, blocks_line, block_recover_line}, Values.{blocks_values, repair_values}};
 ghost use Rattle.rm_lang_statement.specs.IsCommand.{is_repair};
-ghost use Rattle.rm_lang_reading.specs.Values.{blocks_values, repair_values};
 
 use crate::backup::during;
 use rm_base::NoMemory;

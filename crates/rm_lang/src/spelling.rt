@@ -1,6 +1,5 @@
 //! A statement as text.
-ghost use Rattle.std.specs.Prelude.{◌≡◌, IsTrue, IfOk};
-ghost use Rattle.std.specs.List.{list_all, flat_map};
+ghost use Rattle.std.specs.{Prelude.{◌≡◌, IsTrue, IfOk}, List.{list_all, flat_map}};
 ghost use Rattle.rm_lang_token.specs.Tokens.{feeds};
 ghost use Rattle.rm_lang_statement.specs.IsCommand.{is_command, is_inner, is_statement};
 ghost use Rattle.rm_lang.specs.Spelling.{tokens_of, inner_tokens, statement_tokens, ReadsAs};

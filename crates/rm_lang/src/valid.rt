@@ -1,10 +1,7 @@
 //! Which statements can be spelled.
-ghost use Rattle.std.specs.Prelude.{◌≡◌, ◌↔◌, IsTrue};
-ghost use Rattle.std.specs.List.{list_all};
-ghost use Rattle.rm_lang_grammar.specs.Grammar.{in_range};
-ghost use Rattle.rm_lang_grammar.specs.Spelling.{is_shown, is_capital_tag, maybe_valid};
-ghost use Rattle.rm_lang_statement.specs.Named.{ascend_above, are_named};
-ghost use Rattle.rm_lang_statement.specs.Texts.{content, anything, is_new_name, is_text};
+ghost use Rattle.std.specs.{Prelude.{◌≡◌, ◌↔◌, IsTrue}, List.{list_all}};
+ghost use Rattle.rm_lang_grammar.specs.{Grammar.{in_range}, Spelling.{is_shown, is_capital_tag, maybe_valid}};
+ghost use Rattle.rm_lang_statement.specs.{Named.{ascend_above, are_named}, Texts.{content, anything, is_new_name, is_text}};
 ghost use Rattle.rm_lang_statement.specs.IsCommand.{is_until, is_until_or_none, is_write, is_backup, is_repair, is_retention, is_command, is_inner, is_statement};
 ghost use Rattle.rm_lang_reading.specs.Language.{IsSpelled};
 

@@ -1,14 +1,12 @@
 //! The tokens of the statements that have parts.
-ghost use Rattle.std.specs.Prelude.{◌≡◌, IfOk, IsTrue, None, true, false};
-ghost use Rattle.std.specs.Option.{option_map};
+ghost use Rattle.std.specs.{Prelude.{◌≡◌, IfOk, IsTrue, None, true, false}, Option.{option_map}};
 ghost use Rattle.rm_lang_grammar.specs.Spelling.{spelled, is_capital_tag};
 ghost use Rattle.rm_lang_reading.specs.Recovering.{restore_line, restore_datafile_line, recover_line, recover_copy_line};
-ghost use Rattle.rm_lang_reading.specs.Upkeep.{crosscheck_line, change_line, delete_line};
-ghost use Rattle.rm_lang_reading.specs.Settings.{retention_line};
+ghost use Rattle.rm_lang_reading.specs.{Upkeep.{crosscheck_line, change_line, delete_line}, Settings.{retention_line}};
 ghost use Rattle.rm_lang_reading.specs.Language.{set_until_line};
-ghost use Rattle.rm_lang_statement.specs.IsCommand.{is_until, is_until_or_none};
-ghost use Rattle.rm_lang_reading.specs.declared.upkeep.Deletion.TheVariants.{Obsolete, One, Expired};
 ghost use Rattle.rm_lang_reading.specs.Values.{until_values, incarnation_values, class_choice, change_choice, deletion_choice, retention_choice};
+ghost use Rattle.rm_lang_reading.specs.declared.upkeep.Deletion.TheVariants.{Obsolete, One, Expired};
+ghost use Rattle.rm_lang_statement.specs.IsCommand.{is_until, is_until_or_none};
 
 use crate::parts::{change_to, class, optional_incarnation, optional_until, point, policy};
 use rm_base::{Class, NoMemory, Text};

@@ -1,16 +1,13 @@
 -- What is spelled is read again.
-use Rattle.std.proofs.Common.{◌≡◌, refl, ap, sym, subst, inl, inr, codes, cond, arith, ◌==◌, ◌≤◌, eq-eqb, ℕ, zero, suc, List, [], ◌∷◌, Option, Some, None, Bool, true, false, length, ◌&&◌, not}
 use Rattle.std.specs.Prelude.{IsTrue}
+use Rattle.std.proofs.Common.{◌≡◌, refl, ap, sym, subst, inl, inr, codes, cond, arith, ◌==◌, ◌≤◌, eq-eqb, ℕ, zero, suc, List, [], ◌∷◌, Option, Some, None, Bool, true, false, length, ◌&&◌, not}
 use Rattle.std.proofs.lemmas.Bool.{and_parts, not-true}
-use Rattle.rm_lang_token.specs.declared.token.Token.{Token}
+use Rattle.rm_lang_token.specs.{Statements.{is_word}, Spelling.{are_string_bytes}, declared.token.Token.{Token}}
 use Rattle.rm_lang_token.specs.declared.token.Token.TheVariants.{Word, Number, Quoted, Sign, Bad}
-use Rattle.rm_lang_token.specs.Statements.{is_word}
-use Rattle.rm_lang_token.specs.Spelling.{are_string_bytes}
 use Rattle.rm_lang_grammar.specs.Grammar.{Grammar, end, semicolon, word, flag, noise, number, number_or, text, tag, named, optional, either, numbers, sign, many, SpellsMany, SpellsBehind, Choice, first, second, Values, Spells, SpellsMaybe, SpellsOne, SpellsMore, SpellsNumbers, SpellsFlag, SpellsNumberOr, IsName, kept_of}
 use Rattle.rm_lang_grammar.specs.Reading.{◌>>=◌, read, word_at, number_at, text_at, name_at, tag_at, flag_at, number_or_at, more_at, numbers_at, many_at, sign_at, with_front, maybe, one_of, begins, begins_with}
 use Rattle.rm_lang_grammar.specs.Clear.{OpensAs, Follows, firsts, unlike, apart, keyed, clear}
-use Rattle.rm_lang_grammar.proofs.Opens.{opens, opens_many, begun, not_begun, not_with}
-use Rattle.rm_lang_grammar.proofs.Short.{few}
+use Rattle.rm_lang_grammar.proofs.{Opens.{opens, opens_many, begun, not_begun, not_with}, Short.{few}}
 
 abbrev joined : {A V : Type 0} → A → V × List Token → Option ((A × V) × List Token)
 joined a y = Some ((a, y.0), y.1)

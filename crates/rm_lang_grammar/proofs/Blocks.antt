@@ -1,16 +1,13 @@
 -- What is read of a block is exactly what it spells.
-use Rattle.std.proofs.Common.{◌≡◌, refl, ap, sym, subst, ◌∙◌, inl, inr, arith, ◌≤◌, ℕ, zero, suc, List, [], ◌∷◌, Option, Some, true, false, length}
 use Rattle.std.specs.Prelude.{IsTrue}
+use Rattle.std.proofs.Common.{◌≡◌, refl, ap, sym, subst, ◌∙◌, inl, inr, arith, ◌≤◌, ℕ, zero, suc, List, [], ◌∷◌, Option, Some, true, false, length}
 use Rattle.std.proofs.lemmas.Bool.{and_parts}
-use Rattle.rm_lang_token.specs.declared.token.Token.{Token}
+use Rattle.rm_lang_token.specs.{Statements.{is_word, is_the_sign}, declared.token.Token.{Token}}
 use Rattle.rm_lang_token.specs.declared.token.Token.TheVariants.{Word, Number, Quoted, Sign, Bad}
-use Rattle.rm_lang_token.specs.Statements.{is_word, is_the_sign}
-use Rattle.rm_lang_grammar.specs.Grammar.{Grammar, word, Values, Spells, SpellsMany}
-use Rattle.rm_lang_grammar.specs.Reading.{◌>>=◌, word_at, sign_at, many_at}
+use Rattle.rm_lang_grammar.specs.{Grammar.{Grammar, word, Values, Spells, SpellsMany}, Reading.{◌>>=◌, word_at, sign_at, many_at}}
 use Rattle.rm_lang_grammar.specs.Forms.{Form, IsByOne, command_in, are_apart}
 use Rattle.rm_lang_grammar.specs.Blocks.{IsBlock, goes_on, commands_in, block_at, leads, are_led}
-use Rattle.rm_lang_grammar.proofs.Found.{bind_some, some_same, word_found, sign_found, many_found}
-use Rattle.rm_lang_grammar.proofs.Forms.{in_found, in_again}
+use Rattle.rm_lang_grammar.proofs.{Found.{bind_some, some_same, word_found, sign_found, many_found}, Forms.{in_found, in_again}}
 use Rattle.rm_lang_grammar.proofs.Short.{short}
 
 abbrev and_behind : {A : Type 0} → A → List Token → Option (A × List Token)

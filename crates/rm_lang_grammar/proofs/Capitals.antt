@@ -1,15 +1,9 @@
 -- Tags in capitals.
-use Rattle.std.proofs.Common.{◌≡◌, refl, arith, ◌==◌, ◌&&◌, ℕ, List, [], ◌∷◌, Bool, true, length}
-use Rattle.std.specs.Prelude.{nat_le}
-use Rattle.std.specs.List.{list_all}
-use Rattle.std.specs.Char.{to_ascii_uppercase}
-use Rattle.std.specs.Str.{bytes_eq}
-use Rattle.std.proofs.lemmas.Bool.{and_parts, and_from}
+use Rattle.std.specs.{Prelude.{nat_le}, List.{list_all}, Char.{to_ascii_uppercase}, Str.{bytes_eq}}
+use Rattle.std.proofs.{Common.{◌≡◌, refl, arith, ◌==◌, ◌&&◌, ℕ, List, [], ◌∷◌, Bool, true, length}, lemmas.Bool.{and_parts, and_from}}
 use Rattle.std.proofs.lemmas.Bool.Decides.{nat_tests}
-use Rattle.rm_lang_token.specs.Tokens.{is_word_byte, is_string_byte}
-use Rattle.rm_lang_token.specs.Spelling.{are_string_bytes}
-use Rattle.rm_lang_grammar.specs.Grammar.{capitals, is_tag}
-use Rattle.rm_lang_grammar.specs.Spelling.{is_capital_tag}
+use Rattle.rm_lang_token.specs.{Tokens.{is_word_byte, is_string_byte}, Spelling.{are_string_bytes}}
+use Rattle.rm_lang_grammar.specs.{Grammar.{capitals, is_tag}, Spelling.{is_capital_tag}}
 
 -- no small letter
 abbrev pub is_capital : ℕ → Bool

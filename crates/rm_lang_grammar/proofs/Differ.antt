@@ -1,14 +1,9 @@
 -- Lines that differ spell no token list both.
-use Rattle.std.proofs.Common.{◌≡◌, sym, subst, ◌∙◌, inl, inr, ℕ, List, [], Bool, true, false, ◌||◌, not}
-use Rattle.std.specs.Prelude.{IsTrue, ◌⊎◌}
-use Rattle.std.specs.Str.{str_eq_ignore_ascii_case}
-use Rattle.std.proofs.lemmas.Bool.{and_parts}
-use Rattle.rm_lang_token.specs.declared.token.Token.{Token}
-use Rattle.rm_lang_token.specs.declared.token.Token.TheVariants.{Word, Number, Quoted, Sign, Bad}
-use Rattle.rm_lang_token.specs.Statements.{is_word}
+use Rattle.std.specs.{Prelude.{IsTrue, ◌⊎◌}, Str.{str_eq_ignore_ascii_case}}
+use Rattle.std.proofs.{Common.{◌≡◌, sym, subst, ◌∙◌, inl, inr, ℕ, List, [], Bool, true, false, ◌||◌, not}, lemmas.Bool.{and_parts}}
+use Rattle.rm_lang_token.specs.{Statements.{is_word}, declared.token.Token.{Token, TheVariants.{Word, Number, Quoted, Sign, Bad}}}
 use Rattle.rm_lang_grammar.specs.Grammar.{Grammar, end, semicolon, word, flag, noise, number, number_or, text, tag, named, optional, either, numbers, sign, many, Values, Spells}
-use Rattle.rm_lang_grammar.specs.Clear.{firsts, apart, keyed, Follows}
-use Rattle.rm_lang_grammar.specs.Differ.{differ, differ_here}
+use Rattle.rm_lang_grammar.specs.{Clear.{firsts, apart, keyed, Follows}, Differ.{differ, differ_here}}
 use Rattle.rm_lang_grammar.proofs.Opens.{begun, not_begun, opens, like_both}
 
 here : (a b : Grammar) (ts r s : List Token) (x : Values a) (y : Values b) → Follows a [] r → differ_here a b ≡ true → Spells a x ts r → Spells b y ts s → ⊥

@@ -1,11 +1,9 @@
 -- Where a statement ends whose tokens are spelled.
-use Rattle.std.proofs.Common.{◌≡◌, refl, sym, subst, codes, cond, ◌==◌, ◌&&◌, ◌||◌, not, if◌then◌else◌, ℕ, List, [], ◌∷◌, ◌++◌, Option, Some, None, Bool, true, false, length}
 use Rattle.std.specs.List.{list_all}
+use Rattle.std.proofs.Common.{◌≡◌, refl, sym, subst, codes, cond, ◌==◌, ◌&&◌, ◌||◌, not, if◌then◌else◌, ℕ, List, [], ◌∷◌, ◌++◌, Option, Some, None, Bool, true, false, length}
 use Rattle.std.proofs.lemmas.Bool.{and_parts, not-true, eqb-true, eq-eqb, cond_both}
-use Rattle.rm_lang_token.specs.declared.token.Token.{Token}
+use Rattle.rm_lang_token.specs.{Statements.{is_word, depth_after}, Spelling.{ends_with, is_statement}, declared.token.Token.{Token}}
 use Rattle.rm_lang_token.specs.declared.token.Token.TheVariants.{Word, Number, Quoted, Sign, Bad}
-use Rattle.rm_lang_token.specs.Statements.{is_word, depth_after}
-use Rattle.rm_lang_token.specs.Spelling.{ends_with, is_statement}
 use Rattle.rm_lang_grammar.specs.Grammar.{Grammar, end, semicolon, word, flag, noise, number, number_or, text, tag, named, optional, either, numbers, sign, many, Choice, first, second, Values}
 use Rattle.rm_lang_grammar.specs.Spelling.{spelled, flag_spelled, number_or_spelled, maybe_spelled, one_spelled, more_spelled, numbers_spelled, many_spelled}
 use Rattle.rm_lang_grammar.specs.Endings.{stops, quiet}

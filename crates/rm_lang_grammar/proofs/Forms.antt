@@ -1,15 +1,9 @@
 -- What the forms read is exactly what they spell, and one command at the front of each token list.
-use Rattle.std.proofs.Common.{◌≡◌, refl, ap, sym, ◌∙◌, inl, inr, List, [], ◌∷◌, Option, Some, None, true, ◌&&◌}
-use Rattle.std.proofs.lemmas.Bool.{and_parts}
+use Rattle.std.proofs.{Common.{◌≡◌, refl, ap, sym, ◌∙◌, inl, inr, List, [], ◌∷◌, Option, Some, None, true, ◌&&◌}, lemmas.Bool.{and_parts}}
 use Rattle.rm_lang_token.specs.declared.token.Token.{Token}
-use Rattle.rm_lang_grammar.specs.Grammar.{Grammar, Values, Spells}
-use Rattle.rm_lang_grammar.specs.Clear.{clear, closed}
-use Rattle.rm_lang_grammar.specs.Differ.{differ}
-use Rattle.rm_lang_grammar.specs.Reading.{read}
+use Rattle.rm_lang_grammar.specs.{Grammar.{Grammar, Values, Spells}, Clear.{clear, closed}, Differ.{differ}, Reading.{read}}
 use Rattle.rm_lang_grammar.specs.Forms.{Form, IsBy, IsByOne, meant, command_by, command_in, or_else, differs_from, are_apart}
-use Rattle.rm_lang_grammar.proofs.Found.{found, bind_some, some_same}
-use Rattle.rm_lang_grammar.proofs.Again.{again}
-use Rattle.rm_lang_grammar.proofs.Differ.{differs}
+use Rattle.rm_lang_grammar.proofs.{Found.{found, bind_some, some_same}, Again.{again}, Differ.{differs}}
 
 abbrev behind : {C : Type 0} → List Token → C → Option (C × List Token)
 behind ts c = Some (c, ts)

@@ -1,12 +1,9 @@
 -- What is read is spelled so.
-use Rattle.std.proofs.Common.{◌≡◌, refl, ap, sym, ◌∙◌, inl, inr, codes, subst, cond, ◌==◌, ℕ, zero, suc, ◌&&◌, not, List, [], ◌∷◌, Option, Some, None, Bool, true, false, length}
-use Rattle.std.proofs.lemmas.Option.{cond_some}
-use Rattle.std.proofs.lemmas.Bool.{and_parts, eqb-true}
 use Rattle.std.specs.Prelude.{IsTrue}
-use Rattle.rm_lang_token.specs.declared.token.Token.{Token}
+use Rattle.std.proofs.Common.{◌≡◌, refl, ap, sym, ◌∙◌, inl, inr, codes, subst, cond, ◌==◌, ℕ, zero, suc, ◌&&◌, not, List, [], ◌∷◌, Option, Some, None, Bool, true, false, length}
+use Rattle.std.proofs.lemmas.{Option.{cond_some}, Bool.{and_parts, eqb-true}}
+use Rattle.rm_lang_token.specs.{Statements.{is_word}, Spelling.{are_string_bytes}, declared.token.Token.{Token}}
 use Rattle.rm_lang_token.specs.declared.token.Token.TheVariants.{Word, Number, Quoted, Sign, Bad}
-use Rattle.rm_lang_token.specs.Statements.{is_word}
-use Rattle.rm_lang_token.specs.Spelling.{are_string_bytes}
 use Rattle.rm_lang_grammar.specs.Grammar.{Grammar, end, semicolon, word, flag, noise, number, number_or, text, tag, named, optional, either, numbers, sign, many, SpellsMany, SpellsBehind, Choice, Values, Spells, SpellsMaybe, SpellsOne, SpellsMore, SpellsNumbers, SpellsFlag, SpellsNumberOr, IsName, is_tag, capitals, kept_of}
 use Rattle.rm_lang_grammar.specs.Reading.{◌>>=◌, read, word_at, number_at, string_at, text_at, name_at, tag_at, named_at, any_word, flag_at, number_or_at, more_at, numbers_at, many_at, sign_at, with_front, rest_of, kept, maybe, one_of, begins, begins_with}
 

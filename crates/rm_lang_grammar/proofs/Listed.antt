@@ -1,8 +1,6 @@
 -- Numbers with commas between.
-use Rattle.std.proofs.Common.{◌≡◌, refl, ap, ℕ, ◌+◌, ◌<◌, add-one, List, [], ◌∷◌, ◌++◌, length, get_or, take}
-use Rattle.std.proofs.Math.Seq.{take-suc}
-use Rattle.rm_lang_token.specs.declared.token.Token.{Token}
-use Rattle.rm_lang_token.specs.declared.token.Token.TheVariants.{Number, Sign}
+use Rattle.std.proofs.{Common.{◌≡◌, refl, ap, ℕ, ◌+◌, ◌<◌, add-one, List, [], ◌∷◌, ◌++◌, length, get_or, take}, Math.Seq.{take-suc}}
+use Rattle.rm_lang_token.specs.declared.token.Token.{Token, TheVariants.{Number, Sign}}
 use Rattle.rm_lang_grammar.specs.Spelling.{more_spelled}
 
 more_spelled-append : (ms ns : List ℕ) → more_spelled (ms ++ ns) ≡ more_spelled ms ++ more_spelled ns

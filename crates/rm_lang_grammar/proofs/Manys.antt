@@ -1,9 +1,7 @@
 -- Reading as many parts as stand there, one after another.
 use Rattle.std.proofs.Common.{◌≡◌, refl, ap, sym, ◌∙◌, arith, ◌<◌, ◌+◌, ◌-◌, ◌++◌, append-nil, append_assoc, ℕ, zero, suc, List, [], ◌∷◌, Option, Some, None, Bool, true, false}
 use Rattle.rm_lang_token.specs.declared.token.Token.{Token}
-use Rattle.rm_lang_grammar.specs.declared.unread.Unread.{Unread}
-use Rattle.rm_lang_grammar.specs.declared.unread.Unread.TheVariants.{Other, NoMemory}
-use Rattle.rm_lang_grammar.specs.Reading.{◌>>=◌, many_at, Fails}
+use Rattle.rm_lang_grammar.specs.{Reading.{◌>>=◌, many_at, Fails}, declared.unread.Unread.{Unread, TheVariants.{Other, NoMemory}}}
 
 -- parts in front of those that were read
 abbrev pub put_before : {A : Type 0} → List A → Option (List A × List Token) → Option (List A × List Token)

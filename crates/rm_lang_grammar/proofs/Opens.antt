@@ -1,14 +1,10 @@
 -- What may stand first in a line.
-use Rattle.std.proofs.Common.{◌≡◌, refl, sym, ◌∙◌, subst, inl, inr, codes, ◌++◌, ℕ, List, [], ◌∷◌, Option, Some, None, Bool, true, false, ◌||◌, not}
 use Rattle.std.specs.Str.{str_eq_ignore_ascii_case, str_to_ascii_lowercase}
-use Rattle.std.proofs.lemmas.Bool.{and_parts, or_cases, or_left, or_right, not-true, false_from_ne_true}
-use Rattle.std.proofs.lemmas.Slice.Eq.{bytes_eq-Decides}
-use Rattle.rm_lang_token.specs.declared.token.Token.{Token}
-use Rattle.rm_lang_token.specs.declared.token.Token.TheVariants.{Word, Number, Quoted, Sign, Bad}
-use Rattle.rm_lang_token.specs.Statements.{is_word}
+use Rattle.std.proofs.Common.{◌≡◌, refl, sym, ◌∙◌, subst, inl, inr, codes, ◌++◌, ℕ, List, [], ◌∷◌, Option, Some, None, Bool, true, false, ◌||◌, not}
+use Rattle.std.proofs.lemmas.{Bool.{and_parts, or_cases, or_left, or_right, not-true, false_from_ne_true}, Slice.Eq.{bytes_eq-Decides}}
+use Rattle.rm_lang_token.specs.{Statements.{is_word}, declared.token.Token.{Token, TheVariants.{Word, Number, Quoted, Sign, Bad}}}
 use Rattle.rm_lang_grammar.specs.Grammar.{Grammar, end, semicolon, word, flag, noise, number, number_or, text, tag, named, optional, either, numbers, sign, many, SpellsMany, SpellsBehind, Choice, first, second, Values, Spells, SpellsMaybe, SpellsOne, SpellsNumbers, SpellsFlag, SpellsNumberOr}
-use Rattle.rm_lang_grammar.specs.Reading.{begins, begins_with}
-use Rattle.rm_lang_grammar.specs.Clear.{among, OpensAs, Follows, firsts, unlike, apart, keyed}
+use Rattle.rm_lang_grammar.specs.{Reading.{begins, begins_with}, Clear.{among, OpensAs, Follows, firsts, unlike, apart, keyed}}
 
 -- two words that are like a third are alike
 pub like_both : (w k j : List ℕ) → str_eq_ignore_ascii_case w k ≡ true → str_eq_ignore_ascii_case w j ≡ true → str_eq_ignore_ascii_case k j ≡ true

@@ -1,10 +1,7 @@
 -- Tokens that can be written, one after another.
-use Rattle.std.proofs.Common.{◌≡◌, refl, ◌∙◌, ◌++◌, ◌∷◌, [], List, true, ◌&&◌}
-use Rattle.std.specs.List.{list_all}
-use Rattle.std.proofs.lemmas.Bool.{and_from}
+use Rattle.std.{specs.List.{list_all}, proofs.{Common.{◌≡◌, refl, ◌∙◌, ◌++◌, ◌∷◌, [], List, true, ◌&&◌}, lemmas.Bool.{and_from}}}
 use Rattle.std.proofs.lemmas.List.Folds.{list_all-append}
-use Rattle.rm_lang_token.specs.declared.token.Token.{Token}
-use Rattle.rm_lang_token.specs.Spelling.{is_plain}
+use Rattle.rm_lang_token.specs.{Spelling.{is_plain}, declared.token.Token.{Token}}
 
 -- one more
 pub plain_push : (ts : List Token) (t : Token) → list_all is_plain ts ≡ true → is_plain t ≡ true → list_all is_plain (ts ++ t ∷ []) ≡ true

@@ -1,18 +1,10 @@
 -- What is valid is spelled, and what is spelled is valid.
+use Rattle.std.specs.{Prelude.{nat_le}, List.{list_all}, Char.{to_ascii_uppercase}, Str.{bytes_eq, str_to_ascii_lowercase}}
 use Rattle.std.proofs.Common.{◌≡◌, refl, ap, sym, subst, inl, inr, codes, cond, arith, append_assoc, ◌==◌, ◌++◌, eq-eqb, ℕ, List, [], ◌∷◌, Option, Some, None, Bool, true, false, length, ◌&&◌, ◌||◌, not}
-use Rattle.std.specs.Prelude.{nat_le}
-use Rattle.std.specs.List.{list_all}
-use Rattle.std.specs.Char.{to_ascii_uppercase}
-use Rattle.std.specs.Str.{bytes_eq, str_to_ascii_lowercase}
-use Rattle.std.proofs.lemmas.Bool.{and_parts, and_from, or_left, or_right, eqb-true}
-use Rattle.std.proofs.lemmas.Bool.Decides.{nat_tests}
-use Rattle.std.proofs.lemmas.List.{length-map}
-use Rattle.std.proofs.lemmas.Slice.Eq.{bytes_eq-Decides}
-use Rattle.std.proofs.lemmas.Str.Ascii.{uppercase-uppercase}
-use Rattle.rm_lang_token.specs.declared.token.Token.{Token}
+use Rattle.std.proofs.lemmas.{Bool.{and_parts, and_from, or_left, or_right, eqb-true, Decides.{nat_tests}}, List.{length-map}}
+use Rattle.std.proofs.lemmas.{Slice.Eq.{bytes_eq-Decides}, Str.Ascii.{uppercase-uppercase}}
+use Rattle.rm_lang_token.specs.{Tokens.{is_word_byte}, Statements.{is_word}, declared.token.Token.{Token}}
 use Rattle.rm_lang_token.specs.declared.token.Token.TheVariants.{Word, Number, Quoted, Sign, Bad}
-use Rattle.rm_lang_token.specs.Tokens.{is_word_byte}
-use Rattle.rm_lang_token.specs.Statements.{is_word}
 use Rattle.rm_lang_grammar.specs.Grammar.{Grammar, end, semicolon, word, flag, noise, number, number_or, text, tag, named, optional, either, numbers, sign, many, Choice, first, second, Values, Spells, SpellsFlag, SpellsNumberOr, SpellsMaybe, SpellsOne, SpellsMore, SpellsNumbers, SpellsBehind, SpellsMany, IsName, is_tag, capitals, kept_of}
 use Rattle.rm_lang_grammar.specs.Spelling.{spelled, valid, flag_spelled, number_or_spelled, maybe_spelled, one_spelled, more_spelled, numbers_spelled, many_spelled, keeps, is_shown, is_capital_tag, maybe_valid, one_valid, is_some_list, AreFaithful}
 

@@ -1,11 +1,8 @@
 -- Which commands are statements of some forms.
 use Rattle.std.proofs.Common.{◌≡◌, subst, sym, inl, inr, ℕ, zero, suc, List, [], ◌∷◌, ◌++◌, Option, Some, None, Bool, true}
 use Rattle.rm_lang_token.specs.declared.token.Token.{Token}
-use Rattle.rm_lang_grammar.specs.Grammar.{Values}
-use Rattle.rm_lang_grammar.specs.Forms.{Form, IsBy, IsByOne}
-use Rattle.rm_lang_grammar.specs.Spelling.{spelled, valid, AreFaithful}
-use Rattle.rm_lang_grammar.proofs.Found.{some_same}
-use Rattle.rm_lang_grammar.proofs.Spelled.{valid_spells, spells_valid}
+use Rattle.rm_lang_grammar.specs.{Grammar.{Values}, Forms.{Form, IsBy, IsByOne}, Spelling.{spelled, valid, AreFaithful}}
+use Rattle.rm_lang_grammar.proofs.{Found.{some_same}, Spelled.{valid_spells, spells_valid}}
 
 -- the form at a place of the list
 abbrev pub form_at : {C : Type 0} → List (Form C) → ℕ → Option (Form C)

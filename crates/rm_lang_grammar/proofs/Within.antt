@@ -2,13 +2,9 @@
 use Rattle.std.proofs.Common.{◌≡◌, refl, ap, subst, ◌∙◌, inl, inr, List, [], ◌∷◌, Option, Some, None, Bool, true, false, ℕ, ◌&&◌, map}
 use Rattle.std.proofs.lemmas.Bool.{and_parts}
 use Rattle.rm_lang_token.specs.declared.token.Token.{Token}
-use Rattle.rm_lang_grammar.specs.Reading.{◌>>=◌, read, begins_with}
-use Rattle.rm_lang_grammar.specs.Clear.{firsts, unlike}
+use Rattle.rm_lang_grammar.specs.{Reading.{◌>>=◌, read, begins_with}, Clear.{firsts, unlike}}
 use Rattle.rm_lang_grammar.specs.Forms.{Form, IsByOne, meant, command_by, command_in, or_else, as_form, are_apart}
-use Rattle.rm_lang_grammar.proofs.Found.{bind_some, some_same}
-use Rattle.rm_lang_grammar.proofs.Forms.{apart_parts}
-use Rattle.rm_lang_grammar.proofs.Opens.{opens, not_with}
-use Rattle.rm_lang_grammar.proofs.Statements.{AllPass}
+use Rattle.rm_lang_grammar.proofs.{Found.{bind_some, some_same}, Forms.{apart_parts}, Opens.{opens, not_with}, Statements.{AllPass}}
 
 -- the same with what the command is a part of
 abbrev pub within : {C D : Type 0} → (C → D) → C × List Token → Option (D × List Token)

@@ -1,10 +1,7 @@
 -- Commands one behind the other, and a block of them in braces.
 use Rattle.std.specs.Prelude.{◌≡◌, ◌&&◌, ℕ, List, [], ◌∷◌, Option, Some, Bool, true, false, not, length, IsTrue}
-use Rattle.rm_lang_token.specs.declared.token.Token.{Token}
-use Rattle.rm_lang_token.specs.declared.token.Token.TheVariants.{Sign}
-use Rattle.rm_lang_token.specs.Statements.{is_word, is_the_sign}
-use Rattle.rm_lang_grammar.specs.Grammar.{Grammar, word, SpellsMany}
-use Rattle.rm_lang_grammar.specs.Reading.{◌>>=◌, word_at, sign_at, many_at}
+use Rattle.rm_lang_token.specs.{Statements.{is_word, is_the_sign}, declared.token.Token.{Token, TheVariants.{Sign}}}
+use Rattle.rm_lang_grammar.specs.{Grammar.{Grammar, word, SpellsMany}, Reading.{◌>>=◌, word_at, sign_at, many_at}}
 use Rattle.rm_lang_grammar.specs.Forms.{Form, IsByOne, command_in}
 
 -- The tokens begin with NAME { .. }, where the commands stand in the braces, one behind the other, each by one of the forms; rest is behind it.

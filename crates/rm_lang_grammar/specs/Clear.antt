@@ -1,9 +1,7 @@
 -- A line of the grammar is clear where one token ahead tells what stands there.
 use Rattle.std.specs.Prelude.{ℕ, List, [], ◌∷◌, ◌++◌, codes, IsTrue, ◌==◌, ◌&&◌, ◌||◌, ◌⊎◌, not, Bool, true, false}
 use Rattle.std.specs.Str.{str_eq_ignore_ascii_case}
-use Rattle.rm_lang_token.specs.declared.token.Token.{Token}
-use Rattle.rm_lang_token.specs.declared.token.Token.TheVariants.{Word, Number, Quoted, Sign, Bad}
-use Rattle.rm_lang_token.specs.Statements.{is_word}
+use Rattle.rm_lang_token.specs.{Statements.{is_word}, declared.token.Token.{Token, TheVariants.{Word, Number, Quoted, Sign, Bad}}}
 use Rattle.rm_lang_grammar.specs.Grammar.{Grammar, end, semicolon, word, flag, noise, number, number_or, text, tag, named, optional, either, numbers, sign, many}
 
 -- the token is one of the words

@@ -1,6 +1,5 @@
 -- Lines that spell no token list both.
-use Rattle.std.specs.Prelude.{ℕ, List, [], ◌&&◌, ◌||◌, not, Bool, false}
-use Rattle.std.specs.Str.{str_eq_ignore_ascii_case}
+use Rattle.std.specs.{Prelude.{ℕ, List, [], ◌&&◌, ◌||◌, not, Bool, false}, Str.{str_eq_ignore_ascii_case}}
 use Rattle.rm_lang_grammar.specs.Grammar.{Grammar, end, semicolon, word, flag, noise, number, number_or, text, tag, named, optional, either, numbers, sign, many}
 use Rattle.rm_lang_grammar.specs.Clear.{firsts, apart, keyed}
 

@@ -1,8 +1,6 @@
 -- Lines in whose spellings a statement ends at the last token, or nowhere.
 use Rattle.std.specs.Prelude.{ℕ, ◌==◌, ◌&&◌, ◌||◌, not, Bool, false, Option, Some, None}
-use Rattle.rm_lang_token.specs.declared.token.Token.{Token}
-use Rattle.rm_lang_token.specs.declared.token.Token.TheVariants.{Sign}
-use Rattle.rm_lang_token.specs.Statements.{is_the_sign, depth_after}
+use Rattle.rm_lang_token.specs.{Statements.{is_the_sign, depth_after}, declared.token.Token.{Token, TheVariants.{Sign}}}
 use Rattle.rm_lang_grammar.specs.Grammar.{Grammar, end, semicolon, word, flag, noise, number, number_or, text, tag, named, optional, either, numbers, sign, many}
 
 -- a statement that begins with RUN, or with none, ends at the token where so many braces are open

@@ -1,10 +1,7 @@
 -- Forms of statements: a line of the grammar, and the command that it means.
 use Rattle.std.specs.Prelude.{◌≡◌, ◌⊎◌, ◌&&◌, List, [], ◌∷◌, Option, Some, None, Bool, true}
 use Rattle.rm_lang_token.specs.declared.token.Token.{Token}
-use Rattle.rm_lang_grammar.specs.Grammar.{Grammar, Values, Spells}
-use Rattle.rm_lang_grammar.specs.Reading.{◌>>=◌, read}
-use Rattle.rm_lang_grammar.specs.Clear.{clear, closed}
-use Rattle.rm_lang_grammar.specs.Differ.{differ}
+use Rattle.rm_lang_grammar.specs.{Grammar.{Grammar, Values, Spells}, Reading.{◌>>=◌, read}, Clear.{clear, closed}, Differ.{differ}}
 
 -- A form of statement, where the commands are of type C. Not all that a line says needs to be a command.
 pub record Form (C : Type 0) : Type 0 where

@@ -1,12 +1,8 @@
 -- The notation of the grammar, and which tokens spell what.
 use Rattle.std.specs.Prelude.{◌≡◌, ◌⊎◌, ℕ, List, [], ◌∷◌, Option, Some, None, codes, IsTrue, ◌==◌, ◌&&◌, not, nat_le, if◌then◌else◌, Bool, true, false, length, map}
-use Rattle.std.specs.List.{list_all}
-use Rattle.std.specs.Char.{to_ascii_uppercase}
-use Rattle.rm_lang_token.specs.Tokens.{is_word_byte}
-use Rattle.rm_lang_token.specs.Spelling.{are_string_bytes}
-use Rattle.rm_lang_token.specs.declared.token.Token.{Token}
+use Rattle.std.specs.{List.{list_all}, Char.{to_ascii_uppercase}}
+use Rattle.rm_lang_token.specs.{Tokens.{is_word_byte}, Spelling.{are_string_bytes}, Statements.{is_word}, declared.token.Token.{Token}}
 use Rattle.rm_lang_token.specs.declared.token.Token.TheVariants.{Word, Number, Quoted, Sign}
-use Rattle.rm_lang_token.specs.Statements.{is_word}
 
 -- what is kept of the bytes, where they are a string
 abbrev pub kept_of : (List ℕ → Option (List ℕ)) → List ℕ → Option (List ℕ)

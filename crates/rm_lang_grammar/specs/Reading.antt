@@ -1,12 +1,9 @@
 -- Reading a line of the grammar from left to right.
 use Rattle.std.specs.Prelude.{◌≡◌, ◌==◌, ◌&&◌, ◌||◌, not, ℕ, zero, suc, List, [], ◌∷◌, Option, Some, None, Result, Ok, Err, codes, Bool, true, false, if◌then◌else◌, length}
-use Rattle.rm_lang_token.specs.declared.token.Token.{Token}
+use Rattle.rm_lang_token.specs.{Statements.{is_word, is_the_sign}, Spelling.{are_string_bytes}, declared.token.Token.{Token}}
 use Rattle.rm_lang_token.specs.declared.token.Token.TheVariants.{Word, Number, Quoted, Sign}
-use Rattle.rm_lang_token.specs.Statements.{is_word, is_the_sign}
-use Rattle.rm_lang_token.specs.Spelling.{are_string_bytes}
-use Rattle.rm_lang_grammar.specs.declared.unread.Unread.{Unread}
-use Rattle.rm_lang_grammar.specs.declared.unread.Unread.TheVariants.{Other, NoMemory}
 use Rattle.rm_lang_grammar.specs.Grammar.{Grammar, end, semicolon, word, flag, noise, number, number_or, text, tag, named, optional, either, numbers, sign, many, Choice, first, second, Values, is_tag, capitals}
+use Rattle.rm_lang_grammar.specs.declared.unread.Unread.{Unread, TheVariants.{Other, NoMemory}}
 
 infixl 10 ◌>>=◌
 -- goes on with what was read, if anything was

@@ -1,11 +1,8 @@
 //! What the notation of the grammar means.
 ghost use Rattle.std.specs.Prelude.{◌≡◌, ◌++◌, [], List, Some, true, ℕ};
 ghost use Rattle.rm_lang_token.specs.declared.token.Token.{Token as TokenOf};
-ghost use Rattle.rm_lang_grammar.specs.Grammar.{Grammar, Values, Spells};
-ghost use Rattle.rm_lang_grammar.specs.Reading.{read};
-ghost use Rattle.rm_lang_grammar.specs.Clear.{clear};
-ghost use Rattle.rm_lang_grammar.specs.Forms.{Form, IsByOne, command_in, are_apart};
-ghost use Rattle.rm_lang_grammar.specs.Blocks.{IsBlock, block_at, are_led};
+ghost use Rattle.rm_lang_grammar.specs.{Grammar.{Grammar, Values, Spells}, Reading.{read}, Clear.{clear}};
+ghost use Rattle.rm_lang_grammar.specs.{Forms.{Form, IsByOne, command_in, are_apart}, Blocks.{IsBlock, block_at, are_led}};
 ghost use Rattle.rm_lang_grammar.specs.Spelling.{spelled, valid, AreFaithful};
 
 /// What is read is spelled so.

@@ -1,8 +1,8 @@
 //! Reading tokens from left to right. Each function takes from the front and gives the rest.
 ghost use Rattle.std.specs.Prelude.{◌≡◌, ◌≢◌, ◌≤◌, ◌++◌, IfOk, OnOk, IfErr, length};
-ghost use Rattle.rm_lang_grammar.specs.declared.unread.Unread.TheVariants.{NoMemory as WithoutMemory};
 ghost use Rattle.rm_lang_grammar.specs.Grammar.{any, in_range};
 ghost use Rattle.rm_lang_grammar.specs.Reading.{Gives, begins_with, word_at, sign_at, finish_at, flag_at, number_at, number_or_at, string_at, tag_of, tag_at, named_at, more_at, numbers_at};
+ghost use Rattle.rm_lang_grammar.specs.declared.unread.Unread.TheVariants.{NoMemory as WithoutMemory};
 
 use crate::tags::is_tag;
 use crate::unread::Unread;

@@ -1,9 +1,7 @@
 //! The tokens of a statement, from left to right.
-ghost use Rattle.std.specs.Prelude.{◌≡◌, ◌++◌, ◌∷◌, [], codes, IsTrue, OnOk};
-ghost use Rattle.std.specs.List.{list_all};
+ghost use Rattle.std.specs.{Prelude.{◌≡◌, ◌++◌, ◌∷◌, [], codes, IsTrue, OnOk}, List.{list_all}};
+ghost use Rattle.rm_lang_token.specs.{Spelling.{are_string_bytes, is_name, is_plain}, Tokens.{is_sign}};
 ghost use Rattle.rm_lang_token.specs.declared.token.Token.TheVariants.{Word, Number, Quoted, Sign};
-ghost use Rattle.rm_lang_token.specs.Spelling.{are_string_bytes, is_name, is_plain};
-ghost use Rattle.rm_lang_token.specs.Tokens.{is_sign};
 ghost use Rattle.rm_lang_grammar.specs.Spelling.{flag_spelled, number_or_spelled, more_spelled, numbers_spelled, is_capital_tag};
 
 use rm_base::{NoMemory, Seq, Text};
@@ -19,10 +17,8 @@ pub struct Spelling {
 }
 
 impl Model for Spelling {
-    ghost use Rattle.std.specs.Prelude.{List, IsTrue};
-    ghost use Rattle.std.specs.List.{list_all};
-    ghost use Rattle.rm_lang_token.specs.declared.token.Token.{Token as TokenOf};
-    ghost use Rattle.rm_lang_token.specs.Spelling.{is_plain};
+    ghost use Rattle.std.specs.{Prelude.{List, IsTrue}, List.{list_all}};
+    ghost use Rattle.rm_lang_token.specs.{Spelling.{is_plain}, declared.token.Token.{Token as TokenOf}};
 
     ghost Value = { List TokenOf };
 

@@ -1,11 +1,7 @@
 //! Which bytes are a tag.
-ghost use Rattle.std.specs.Prelude.{◌≡◌, ◌==◌};
-ghost use Rattle.std.specs.List.{list_all};
-ghost use Rattle.std.specs.Char.{to_ascii_uppercase};
-ghost use Rattle.std.specs.Str.{bytes_eq};
+ghost use Rattle.std.specs.{Prelude.{◌≡◌, ◌==◌}, List.{list_all}, Char.{to_ascii_uppercase}, Str.{bytes_eq}};
 ghost use Rattle.rm_lang_token.specs.Tokens.{is_word_byte};
-ghost use Rattle.rm_lang_grammar.specs.Grammar.{is_tag, capitals};
-ghost use Rattle.rm_lang_grammar.specs.Spelling.{is_capital_tag};
+ghost use Rattle.rm_lang_grammar.specs.{Grammar.{is_tag, capitals}, Spelling.{is_capital_tag}};
 
 use rm_lang_token::is_word_byte;
 

@@ -1,9 +1,7 @@
 -- Statements inside a RUN.
 use Rattle.std.proofs.Common.{◌≡◌, List, map}
 use Rattle.rm_lang_token.specs.declared.token.Token.{Token}
-use Rattle.rm_lang_grammar.specs.Reading.{◌>>=◌}
-use Rattle.rm_lang_grammar.specs.Forms.{as_form, command_in}
-use Rattle.rm_lang_grammar.proofs.Within.{within, in_as}
+use Rattle.rm_lang_grammar.{specs.{Reading.{◌>>=◌}, Forms.{as_form, command_in}}, proofs.Within.{within, in_as}}
 use Rattle.rm_lang_statement.specs.declared.command.Inner.TheVariants.{Plain}
 use Rattle.rm_lang_reading.specs.Language.{forms}
 

@@ -1,24 +1,15 @@
 -- What is read is exactly the grammar.
 use Rattle.std.proofs.Common.{◌≡◌, refl, sym, subst, ◌∙◌, cond, List, [], ◌∷◌, Some, None, Bool, true, false, codes, arith}
 use Rattle.rm_lang_token.specs.declared.token.Token.{Token}
-use Rattle.rm_lang_grammar.specs.Reading.{◌>>=◌, begins_with, finish_at}
-use Rattle.rm_lang_grammar.specs.Forms.{are_apart, IsByOne, command_in}
-use Rattle.rm_lang_grammar.specs.Blocks.{IsBlock, block_at, are_led}
-use Rattle.rm_lang_grammar.proofs.Found.{bind_some, some_same}
-use Rattle.rm_lang_grammar.proofs.Forms.{in_found, in_again}
-use Rattle.rm_lang_grammar.proofs.Blocks.{block_found, block_again}
-use Rattle.rm_lang_grammar.proofs.Within.{are_unlike, none_begins}
-use Rattle.rm_lang_statement.specs.declared.command.Command.{Command}
-use Rattle.rm_lang_statement.specs.declared.command.Inner.{Inner}
-use Rattle.rm_lang_statement.specs.declared.command.Statement.{Statement}
-use Rattle.rm_lang_statement.specs.declared.command.Statement.TheVariants.{Plain, Run}
+use Rattle.rm_lang_grammar.specs.{Reading.{◌>>=◌, begins_with, finish_at}, Forms.{are_apart, IsByOne, command_in}}
+use Rattle.rm_lang_grammar.{specs.Blocks.{IsBlock, block_at, are_led}, proofs.{Found.{bind_some, some_same}, Forms.{in_found, in_again}}}
+use Rattle.rm_lang_grammar.proofs.{Blocks.{block_found, block_again}, Within.{are_unlike, none_begins}}
+use Rattle.rm_lang_statement.specs.declared.command.{Command.{Command}, Inner.{Inner}, Statement.{Statement, TheVariants.{Plain, Run}}}
 use Rattle.rm_lang_reading.specs.Language.{mishap_forms, setting_forms, asking_forms, upkeep_forms, backup_forms, repair_forms, recovery_forms, mode_forms, switch_forms, forms, set_until, allocate, inner_forms, IsStatement, statement_at}
 use Rattle.rm_lang_reading.specs.Creating.{create_database, write, create_datafile, switch_logfile, archive_log, track, untrack, enable_thread, disable_thread}
 use Rattle.rm_lang_reading.specs.Modes.{shutdown, startup, reset_database, open_database}
-use Rattle.rm_lang_reading.specs.Recovering.{restore, restore_datafile, recover, recover_copy}
-use Rattle.rm_lang_reading.specs.Repairs.{block_recover}
-use Rattle.rm_lang_reading.specs.Backups.{backup, backup_logs}
-use Rattle.rm_lang_reading.specs.Upkeep.{crosscheck, validate, change, delete}
+use Rattle.rm_lang_reading.specs.{Recovering.{restore, restore_datafile, recover, recover_copy}, Repairs.{block_recover}}
+use Rattle.rm_lang_reading.specs.{Backups.{backup, backup_logs}, Upkeep.{crosscheck, validate, change, delete}}
 use Rattle.rm_lang_reading.specs.Asking.{report_obsolete, report_need_backup, report_schema, list_incarnation, list_backup, list_copy, list_archived, list_corruption, show, dump}
 use Rattle.rm_lang_reading.specs.Settings.{retention, parallelism, catalog}
 use Rattle.rm_lang_reading.specs.Mishaps.{lose_datafile, lose_log, corrupt, remove, damage, cut, rename}

@@ -1,30 +1,17 @@
 -- What is kept of a part of a statement tells the part.
-use Rattle.std.proofs.Common.{◌≡◌, refl, ap, ℕ, List, [], ◌∷◌, Option, Some, None, Bool, true, false, map}
-use Rattle.std.specs.Option.{option_map}
-use Rattle.rm_base.specs.declared.kinds.Class.{Class}
-use Rattle.rm_base.specs.declared.kinds.Class.TheVariants.{Backup as BackupClass, Copy as CopyClass, Archived}
-use Rattle.rm_lang_reading.specs.declared.backup.BackupAs.{BackupAs}
-use Rattle.rm_lang_reading.specs.declared.backup.BackupAs.TheVariants.{Copy, Sets}
-use Rattle.rm_lang_reading.specs.declared.backup.Increment.{Increment}
-use Rattle.rm_lang_reading.specs.declared.backup.Increment.TheVariants.{Level as OfLevel, From as FromScn}
-use Rattle.rm_lang_reading.specs.declared.upkeep.Deletion.{Deletion}
-use Rattle.rm_lang_reading.specs.declared.upkeep.Deletion.TheVariants.{Obsolete, One, Expired}
-use Rattle.rm_lang_statement.specs.declared.command.Until.{Until}
-use Rattle.rm_lang_statement.specs.declared.command.Until.TheVariants.{Scn, Sequence, Time}
-use Rattle.rm_lang_statement.specs.declared.command.WriteForm.{WriteForm}
-use Rattle.rm_lang_statement.specs.declared.command.NamedBlocks.{NamedBlocks}
-use Rattle.rm_lang_statement.specs.declared.command.ChangeTo.{ChangeTo}
-use Rattle.rm_lang_statement.specs.declared.command.ChangeTo.TheVariants.{Available, Unavailable, Uncatalog, Keep, NoKeep}
-use Rattle.rm_lang_statement.specs.declared.command.RetentionForm.{RetentionForm}
-use Rattle.rm_lang_statement.specs.declared.command.RetentionForm.TheVariants.{Window, Redundancy, Nothing, Clear}
-use Rattle.rm_lang_statement.specs.Named.{in_order}
-use Rattle.rm_lang_reading.specs.Creating.{written}
-use Rattle.rm_lang_reading.specs.Recovering.{until_by, until_of, incarnation_of}
+use Rattle.std.{specs.Option.{option_map}, proofs.Common.{◌≡◌, refl, ap, ℕ, List, [], ◌∷◌, Option, Some, None, Bool, true, false, map}}
+use Rattle.rm_base.specs.declared.kinds.Class.{Class, TheVariants.{Backup as BackupClass, Copy as CopyClass, Archived}}
+use Rattle.rm_lang_reading.specs.{Creating.{written}, Recovering.{until_by, until_of, incarnation_of}}
 use Rattle.rm_lang_reading.specs.Backups.{kind_of, is_copy, increment_of, merge_tag_of, files_of, per_set_of, tag_of, stands, during_of}
-use Rattle.rm_lang_reading.specs.Repairs.{ordered, blocks_of}
-use Rattle.rm_lang_reading.specs.Upkeep.{class_by, change_by, deletion_by}
-use Rattle.rm_lang_reading.specs.Settings.{retention_by}
+use Rattle.rm_lang_reading.specs.{Repairs.{ordered, blocks_of}, Upkeep.{class_by, change_by, deletion_by}, Settings.{retention_by}}
 use Rattle.rm_lang_reading.specs.Values.{write_values, until_choice, until_values, incarnation_values, kind_values, kind_asked, increment_values, merge_values, files_values, sets_values, tag_values, keep_values, during_values, blocks_values, class_choice, change_choice, deletion_choice, retention_choice}
+use Rattle.rm_lang_reading.specs.declared.backup.{BackupAs.{BackupAs, TheVariants.{Copy, Sets}}, Increment.{Increment}}
+use Rattle.rm_lang_reading.specs.declared.{backup.Increment.TheVariants.{Level as OfLevel, From as FromScn}, upkeep.Deletion.{Deletion}}
+use Rattle.rm_lang_reading.specs.declared.upkeep.Deletion.TheVariants.{Obsolete, One, Expired}
+use Rattle.rm_lang_statement.specs.{Named.{in_order}, declared.command.Until.{Until, TheVariants.{Scn, Sequence, Time}}}
+use Rattle.rm_lang_statement.specs.declared.command.{WriteForm.{WriteForm}, NamedBlocks.{NamedBlocks}, ChangeTo.{ChangeTo}}
+use Rattle.rm_lang_statement.specs.declared.command.ChangeTo.TheVariants.{Available, Unavailable, Uncatalog, Keep, NoKeep}
+use Rattle.rm_lang_statement.specs.declared.command.RetentionForm.{RetentionForm, TheVariants.{Window, Redundancy, Nothing, Clear}}
 
 pub choice_again : (u : Until) → until_by (until_choice u) ≡ u
 choice_again (Scn n) = refl

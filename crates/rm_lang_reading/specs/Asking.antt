@@ -1,7 +1,6 @@
 -- The statements that ask and answer, and the command that each one is.
 use Rattle.std.specs.Prelude.{Some, codes}
-use Rattle.rm_lang_grammar.specs.Grammar.{◌▸◌, Grammar, semicolon, word, number, any}
-use Rattle.rm_lang_grammar.specs.Forms.{Form}
+use Rattle.rm_lang_grammar.specs.{Grammar.{◌▸◌, Grammar, semicolon, word, number, any}, Forms.{Form}}
 use Rattle.rm_lang_statement.specs.declared.command.Command.{Command}
 use Rattle.rm_lang_statement.specs.declared.command.Command.TheVariants.{ReportObsolete, ReportNeedBackup, ReportSchema, ListIncarnation, ListBackup, ListCopy, ListArchived, ListCorruption, ShowAll, Dump}
 

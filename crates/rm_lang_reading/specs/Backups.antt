@@ -3,20 +3,11 @@ use Rattle.std.specs.Prelude.{ℕ, Bool, true, false, not, ◌&&◌, if◌then�
 use Rattle.std.specs.Option.{option_map}
 use Rattle.rm_lang_token.specs.declared.token.Token.{Token}
 use Rattle.rm_lang_grammar.specs.Grammar.{◌▸◌, Grammar, Values, Choice, first, second, end, semicolon, word, flag, number, tag, optional, either, numbers, sign, many, any, in_range}
-use Rattle.rm_lang_grammar.specs.Reading.{◌>>=◌, word_at, read}
-use Rattle.rm_lang_grammar.specs.Forms.{Form}
-use Rattle.rm_lang_reading.specs.declared.backup.BackupAs.{BackupAs}
-use Rattle.rm_lang_reading.specs.declared.backup.BackupAs.TheVariants.{Copy, Sets}
-use Rattle.rm_lang_reading.specs.declared.backup.Level.{Level}
-use Rattle.rm_lang_reading.specs.declared.backup.Increment.{Increment}
-use Rattle.rm_lang_reading.specs.declared.backup.Increment.TheVariants.{Level as OfLevel, From as FromScn}
-use Rattle.rm_lang_statement.specs.declared.command.WriteForm.{WriteForm}
-use Rattle.rm_lang_statement.specs.declared.command.BackupForm.{BackupForm}
-use Rattle.rm_lang_statement.specs.declared.command.Command.{Command}
-use Rattle.rm_lang_statement.specs.declared.command.Command.TheVariants.{Backup, BackupFrom, BackupLogs}
-use Rattle.rm_lang_statement.specs.Named.{in_order}
-use Rattle.rm_lang_reading.specs.Creating.{write_part, written}
-use Rattle.rm_lang_statement.specs.Agreed.{agrees}
+use Rattle.rm_lang_grammar.specs.{Reading.{◌>>=◌, word_at, read}, Forms.{Form}}
+use Rattle.rm_lang_reading.specs.{Creating.{write_part, written}, declared.backup.BackupAs.{BackupAs, TheVariants.{Copy, Sets}}}
+use Rattle.rm_lang_reading.specs.declared.backup.{Level.{Level}, Increment.{Increment, TheVariants.{Level as OfLevel, From as FromScn}}}
+use Rattle.rm_lang_statement.specs.{Named.{in_order}, Agreed.{agrees}, declared.command.{WriteForm.{WriteForm}, BackupForm.{BackupForm}}}
+use Rattle.rm_lang_statement.specs.declared.command.Command.{Command, TheVariants.{Backup, BackupFrom, BackupLogs}}
 
 -- AS COPY or AS BACKUPSET
 abbrev pub as_line : Grammar

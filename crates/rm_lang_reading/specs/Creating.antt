@@ -1,11 +1,8 @@
 -- The statements that make a database and change it, and the command that each one is.
 use Rattle.std.specs.Prelude.{◌-◌, ◌^◌, Some, codes, true, false}
-use Rattle.rm_lang_grammar.specs.Grammar.{◌▸◌, Grammar, Values, semicolon, word, number, number_or, text, any, in_range}
-use Rattle.rm_lang_grammar.specs.Forms.{Form}
-use Rattle.rm_lang_statement.specs.declared.command.WriteForm.{WriteForm}
-use Rattle.rm_lang_statement.specs.declared.command.Command.{Command}
+use Rattle.rm_lang_grammar.specs.{Grammar.{◌▸◌, Grammar, Values, semicolon, word, number, number_or, text, any, in_range}, Forms.{Form}}
+use Rattle.rm_lang_statement.specs.{Texts.{content}, declared.command.{WriteForm.{WriteForm}, Command.{Command}}}
 use Rattle.rm_lang_statement.specs.declared.command.Command.TheVariants.{CreateDatabase, CreateDatafile, Write, SwitchLogfile, ArchiveLogCurrent, Tracking, SwitchThread}
-use Rattle.rm_lang_statement.specs.Texts.{content}
 
 -- CREATE DATABASE [DBID n] [THREADS n] [SCN n]
 abbrev pub create_database_line : Grammar

@@ -1,21 +1,15 @@
 -- The statements: which token lists are which statement.
 use Rattle.std.specs.Prelude.{List, [], ◌∷◌, Option, Some, if◌then◌else◌, codes, map}
 use Rattle.rm_lang_token.specs.declared.token.Token.{Token}
-use Rattle.rm_lang_grammar.specs.Grammar.{◌▸◌, Grammar, semicolon, word, named}
-use Rattle.rm_lang_grammar.specs.Reading.{◌>>=◌, begins_with, finish_at}
-use Rattle.rm_lang_grammar.specs.Forms.{Form, IsByOne, command_in, as_form}
-use Rattle.rm_lang_grammar.specs.Blocks.{IsBlock, block_at}
-use Rattle.rm_lang_statement.specs.declared.command.Command.{Command}
-use Rattle.rm_lang_statement.specs.declared.command.Inner.{Inner}
+use Rattle.rm_lang_grammar.specs.{Grammar.{◌▸◌, Grammar, semicolon, word, named}, Reading.{◌>>=◌, begins_with, finish_at}}
+use Rattle.rm_lang_grammar.specs.{Forms.{Form, IsByOne, command_in, as_form}, Blocks.{IsBlock, block_at}}
+use Rattle.rm_lang_statement.specs.declared.command.{Command.{Command}, Inner.{Inner}}
 use Rattle.rm_lang_statement.specs.declared.command.Inner.TheVariants.{SetUntil, AllocateChannel, Plain as PlainInner}
-use Rattle.rm_lang_statement.specs.declared.command.Statement.{Statement}
-use Rattle.rm_lang_statement.specs.declared.command.Statement.TheVariants.{Plain, Run}
+use Rattle.rm_lang_statement.specs.declared.command.Statement.{Statement, TheVariants.{Plain, Run}}
 use Rattle.rm_lang_reading.specs.Creating.{create_database, write, create_datafile, switch_logfile, archive_log, track, untrack, enable_thread, disable_thread}
 use Rattle.rm_lang_reading.specs.Modes.{shutdown, startup, reset_database, open_database}
-use Rattle.rm_lang_reading.specs.Recovering.{until, until_by, restore, restore_datafile, recover, recover_copy}
-use Rattle.rm_lang_reading.specs.Repairs.{block_recover}
-use Rattle.rm_lang_reading.specs.Backups.{backup, backup_logs}
-use Rattle.rm_lang_reading.specs.Upkeep.{crosscheck, validate, change, delete}
+use Rattle.rm_lang_reading.specs.{Recovering.{until, until_by, restore, restore_datafile, recover, recover_copy}, Repairs.{block_recover}}
+use Rattle.rm_lang_reading.specs.{Backups.{backup, backup_logs}, Upkeep.{crosscheck, validate, change, delete}}
 use Rattle.rm_lang_reading.specs.Asking.{report_obsolete, report_need_backup, report_schema, list_incarnation, list_backup, list_copy, list_archived, list_corruption, show, dump}
 use Rattle.rm_lang_reading.specs.Settings.{retention, parallelism, catalog}
 use Rattle.rm_lang_reading.specs.Mishaps.{lose_datafile, lose_log, corrupt, remove, damage, cut, rename}

@@ -1,10 +1,8 @@
 -- The statements that stand for what may befall the devices, and the command that each one is.
 use Rattle.std.specs.Prelude.{Some, codes}
-use Rattle.rm_lang_grammar.specs.Grammar.{◌▸◌, Grammar, semicolon, word, number, text, any}
-use Rattle.rm_lang_grammar.specs.Forms.{Form}
-use Rattle.rm_lang_statement.specs.declared.command.Command.{Command}
+use Rattle.rm_lang_grammar.specs.{Grammar.{◌▸◌, Grammar, semicolon, word, number, text, any}, Forms.{Form}}
+use Rattle.rm_lang_statement.specs.{Texts.{plain, new_name}, declared.command.Command.{Command}}
 use Rattle.rm_lang_statement.specs.declared.command.Command.TheVariants.{LoseDatafile, LoseLog, Corrupt, Remove, Damage, Cut, Rename}
-use Rattle.rm_lang_statement.specs.Texts.{plain, new_name}
 
 -- HOST LOSE DATAFILE n
 abbrev pub lose_datafile_line : Grammar

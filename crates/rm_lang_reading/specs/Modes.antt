@@ -1,9 +1,7 @@
 -- The statements that change the mode, and the command that each one is.
 use Rattle.std.specs.Prelude.{Bool, true, false, Some, codes}
-use Rattle.rm_lang_grammar.specs.Grammar.{◌▸◌, Grammar, semicolon, word, flag, noise, number, any}
-use Rattle.rm_lang_grammar.specs.Forms.{Form}
-use Rattle.rm_lang_statement.specs.declared.command.Command.{Command}
-use Rattle.rm_lang_statement.specs.declared.command.Command.TheVariants.{Mount, OpenPlain, OpenResetlogs, ResetDatabase}
+use Rattle.rm_lang_grammar.specs.{Grammar.{◌▸◌, Grammar, semicolon, word, flag, noise, number, any}, Forms.{Form}}
+use Rattle.rm_lang_statement.specs.declared.command.Command.{Command, TheVariants.{Mount, OpenPlain, OpenResetlogs, ResetDatabase}}
 
 -- SHUTDOWN [IMMEDIATE]
 abbrev pub shutdown_line : Grammar

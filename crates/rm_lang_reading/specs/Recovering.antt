@@ -1,13 +1,9 @@
 -- The statements that restore and recover, and the command that each one is.
-use Rattle.std.specs.Prelude.{ℕ, Bool, true, false, Option, Some, None, codes}
-use Rattle.std.specs.Option.{option_map}
+use Rattle.std.specs.{Prelude.{ℕ, Bool, true, false, Option, Some, None, codes}, Option.{option_map}}
 use Rattle.rm_lang_grammar.specs.Grammar.{◌▸◌, Grammar, Values, Choice, first, second, end, semicolon, word, flag, number, number_or, text, tag, optional, either, any}
 use Rattle.rm_lang_grammar.specs.Forms.{Form}
-use Rattle.rm_lang_statement.specs.declared.command.Until.{Until}
-use Rattle.rm_lang_statement.specs.declared.command.Until.TheVariants.{Scn, Sequence, Time}
-use Rattle.rm_lang_statement.specs.declared.command.Command.{Command}
+use Rattle.rm_lang_statement.specs.{Texts.{time}, declared.command.{Until.{Until, TheVariants.{Scn, Sequence, Time}}, Command.{Command}}}
 use Rattle.rm_lang_statement.specs.declared.command.Command.TheVariants.{Restore, Preview, Recover, RecoverTest, RecoverCopy}
-use Rattle.rm_lang_statement.specs.Texts.{time}
 
 -- SCN n
 abbrev pub scn_part : Grammar

@@ -1,13 +1,9 @@
 -- The statements that mend blocks, and the command that each one is.
-use Rattle.std.specs.Prelude.{Option, Some, None, codes}
-use Rattle.std.specs.Option.{option_map}
+use Rattle.std.specs.{Prelude.{Option, Some, None, codes}, Option.{option_map}}
 use Rattle.rm_lang_grammar.specs.Grammar.{◌▸◌, Grammar, Values, Choice, first, second, end, semicolon, word, number, any, optional, either, numbers}
 use Rattle.rm_lang_grammar.specs.Forms.{Form}
-use Rattle.rm_lang_statement.specs.declared.command.NamedBlocks.{NamedBlocks}
-use Rattle.rm_lang_statement.specs.declared.command.RepairForm.{RepairForm}
-use Rattle.rm_lang_statement.specs.declared.command.Command.{Command}
-use Rattle.rm_lang_statement.specs.declared.command.Command.TheVariants.{BlockRecover}
-use Rattle.rm_lang_statement.specs.Named.{in_order}
+use Rattle.rm_lang_statement.specs.{Named.{in_order}, declared.command.{NamedBlocks.{NamedBlocks}, RepairForm.{RepairForm}}}
+use Rattle.rm_lang_statement.specs.declared.command.Command.{Command, TheVariants.{BlockRecover}}
 use Rattle.rm_lang_reading.specs.Backups.{during_line, during_of}
 
 -- CORRUPTION LIST

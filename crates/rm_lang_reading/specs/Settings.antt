@@ -2,11 +2,9 @@
 use Rattle.std.specs.Prelude.{◌-◌, ◌^◌, Some, codes}
 use Rattle.rm_lang_grammar.specs.Grammar.{◌▸◌, Grammar, Values, Choice, first, second, end, semicolon, word, number, text, either, in_range}
 use Rattle.rm_lang_grammar.specs.Forms.{Form}
-use Rattle.rm_lang_statement.specs.declared.command.RetentionForm.{RetentionForm}
-use Rattle.rm_lang_statement.specs.declared.command.RetentionForm.TheVariants.{Window, Redundancy, Nothing, Clear}
-use Rattle.rm_lang_statement.specs.declared.command.Command.{Command}
+use Rattle.rm_lang_statement.specs.{Texts.{plain}, declared.command.RetentionForm.{RetentionForm}}
+use Rattle.rm_lang_statement.specs.declared.command.{RetentionForm.TheVariants.{Window, Redundancy, Nothing, Clear}, Command.{Command}}
 use Rattle.rm_lang_statement.specs.declared.command.Command.TheVariants.{Retention, Parallelism, CatalogName}
-use Rattle.rm_lang_statement.specs.Texts.{plain}
 
 -- RECOVERY WINDOW OF n DAYS
 abbrev pub window_part : Grammar

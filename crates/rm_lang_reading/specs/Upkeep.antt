@@ -1,13 +1,10 @@
 -- The statements that look after records, and the command that each one is.
 use Rattle.std.specs.Prelude.{Some, codes}
-use Rattle.rm_base.specs.declared.kinds.Class.{Class}
-use Rattle.rm_base.specs.declared.kinds.Class.TheVariants.{Backup, Copy, Archived}
+use Rattle.rm_base.specs.declared.kinds.Class.{Class, TheVariants.{Backup, Copy, Archived}}
 use Rattle.rm_lang_grammar.specs.Grammar.{◌▸◌, Grammar, Values, Choice, first, second, end, semicolon, word, noise, number, either, any}
 use Rattle.rm_lang_grammar.specs.Forms.{Form}
-use Rattle.rm_lang_reading.specs.declared.upkeep.Deletion.{Deletion}
-use Rattle.rm_lang_reading.specs.declared.upkeep.Deletion.TheVariants.{Obsolete, One, Expired}
-use Rattle.rm_lang_statement.specs.declared.command.ChangeTo.{ChangeTo}
-use Rattle.rm_lang_statement.specs.declared.command.ChangeTo.TheVariants.{Available, Unavailable, Uncatalog, Keep, NoKeep}
+use Rattle.rm_lang_reading.specs.declared.upkeep.Deletion.{Deletion, TheVariants.{Obsolete, One, Expired}}
+use Rattle.rm_lang_statement.specs.declared.command.ChangeTo.{ChangeTo, TheVariants.{Available, Unavailable, Uncatalog, Keep, NoKeep}}
 use Rattle.rm_lang_statement.specs.declared.command.Command.{Command}
 use Rattle.rm_lang_statement.specs.declared.command.Command.TheVariants.{Crosscheck, ValidateAll, ChangeBackup, DeleteObsolete, DeleteBackup, DeleteExpired}
 

@@ -1,32 +1,18 @@
 -- What the parts of a statement say.
-use Rattle.std.specs.Prelude.{ℕ, List, Option, Some, None, Bool, true, false, map}
-use Rattle.std.specs.Option.{option_map}
-use Rattle.rm_base.specs.declared.kinds.Class.{Class}
-use Rattle.rm_base.specs.declared.kinds.Class.TheVariants.{Backup as BackupClass, Copy as CopyClass, Archived}
+use Rattle.std.specs.{Prelude.{ℕ, List, Option, Some, None, Bool, true, false, map}, Option.{option_map}}
+use Rattle.rm_base.specs.declared.kinds.Class.{Class, TheVariants.{Backup as BackupClass, Copy as CopyClass, Archived}}
 use Rattle.rm_lang_grammar.specs.Grammar.{Values, Choice, first, second}
-use Rattle.rm_lang_reading.specs.declared.backup.BackupAs.{BackupAs}
-use Rattle.rm_lang_reading.specs.declared.backup.BackupAs.TheVariants.{Copy, Sets}
-use Rattle.rm_lang_reading.specs.declared.backup.Level.{Level}
-use Rattle.rm_lang_reading.specs.declared.backup.Increment.{Increment}
-use Rattle.rm_lang_reading.specs.declared.backup.Increment.TheVariants.{Level as OfLevel, From as FromScn}
-use Rattle.rm_lang_reading.specs.declared.upkeep.Deletion.{Deletion}
-use Rattle.rm_lang_reading.specs.declared.upkeep.Deletion.TheVariants.{Obsolete, One, Expired}
-use Rattle.rm_lang_statement.specs.declared.command.Until.{Until}
-use Rattle.rm_lang_statement.specs.declared.command.Until.TheVariants.{Scn, Sequence, Time}
-use Rattle.rm_lang_statement.specs.declared.command.WriteForm.{WriteForm}
-use Rattle.rm_lang_statement.specs.declared.command.BackupForm.{BackupForm}
-use Rattle.rm_lang_statement.specs.declared.command.NamedBlocks.{NamedBlocks}
-use Rattle.rm_lang_statement.specs.declared.command.RepairForm.{RepairForm}
-use Rattle.rm_lang_statement.specs.declared.command.ChangeTo.{ChangeTo}
-use Rattle.rm_lang_statement.specs.declared.command.ChangeTo.TheVariants.{Available, Unavailable, Uncatalog, Keep, NoKeep}
-use Rattle.rm_lang_statement.specs.declared.command.RetentionForm.{RetentionForm}
-use Rattle.rm_lang_statement.specs.declared.command.RetentionForm.TheVariants.{Window, Redundancy, Nothing, Clear}
-use Rattle.rm_lang_reading.specs.Creating.{write_part}
-use Rattle.rm_lang_reading.specs.Recovering.{scn_part, log_or_time, until_line, incarnation_line}
+use Rattle.rm_lang_reading.specs.{Creating.{write_part}, Recovering.{scn_part, log_or_time, until_line, incarnation_line}}
 use Rattle.rm_lang_reading.specs.Backups.{as_line, level_part, from_part, increment_line, merge_line, database_line, files_line, sets_line, tag_line, keep_line, during_line, backup_line}
 use Rattle.rm_lang_reading.specs.Repairs.{corruption_line, blocks_line, block_recover_line}
-use Rattle.rm_lang_reading.specs.Upkeep.{copy_or_archived, withdrawing, one_or_expired}
-use Rattle.rm_lang_reading.specs.Settings.{policy_part}
+use Rattle.rm_lang_reading.specs.{Upkeep.{copy_or_archived, withdrawing, one_or_expired}, Settings.{policy_part}}
+use Rattle.rm_lang_reading.specs.declared.backup.{BackupAs.{BackupAs, TheVariants.{Copy, Sets}}, Level.{Level}, Increment.{Increment}}
+use Rattle.rm_lang_reading.specs.declared.{backup.Increment.TheVariants.{Level as OfLevel, From as FromScn}, upkeep.Deletion.{Deletion}}
+use Rattle.rm_lang_reading.specs.declared.upkeep.Deletion.TheVariants.{Obsolete, One, Expired}
+use Rattle.rm_lang_statement.specs.declared.command.{Until.{Until, TheVariants.{Scn, Sequence, Time}}, WriteForm.{WriteForm}}
+use Rattle.rm_lang_statement.specs.declared.command.{BackupForm.{BackupForm}, NamedBlocks.{NamedBlocks}, RepairForm.{RepairForm}}
+use Rattle.rm_lang_statement.specs.declared.command.ChangeTo.{ChangeTo, TheVariants.{Available, Unavailable, Uncatalog, Keep, NoKeep}}
+use Rattle.rm_lang_statement.specs.declared.command.RetentionForm.{RetentionForm, TheVariants.{Window, Redundancy, Nothing, Clear}}
 
 -- what a write says
 abbrev pub write_values : WriteForm → Values write_part

@@ -1,6 +1,5 @@
 //! The statements that ask and answer.
-ghost use Rattle.rm_lang_grammar.specs.Reading.{Gives};
-ghost use Rattle.rm_lang_grammar.specs.Forms.{command_by, command_in};
+ghost use Rattle.rm_lang_grammar.specs.{Reading.{Gives}, Forms.{command_by, command_in}};
 ghost use Rattle.rm_lang_reading.specs.Asking.{report_obsolete, report_need_backup, report_schema, list_incarnation, list_backup, list_copy, list_archived, list_corruption, show, dump};
 ghost use Rattle.rm_lang_reading.specs.Language.{asking_forms};
 

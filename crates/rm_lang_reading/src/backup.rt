@@ -1,12 +1,8 @@
 //! The statements that make backups.
-ghost use Rattle.std.specs.Prelude.{◌≡◌};
-ghost use Rattle.std.specs.Prelude.{codes, map, length};
-ghost use Rattle.std.specs.Option.{option_map};
-ghost use Rattle.rm_lang_grammar.specs.Reading.{Gives, read, maybe, one_of, begins, begins_with, many_at};
-ghost use Rattle.rm_lang_grammar.specs.Forms.{command_by, command_in};
-ghost use Rattle.rm_lang_statement.specs.Named.{in_order};
+ghost use Rattle.std.specs.{Prelude.{◌≡◌, codes, map, length}, Option.{option_map}};
+ghost use Rattle.rm_lang_grammar.specs.{Reading.{Gives, read, maybe, one_of, begins, begins_with, many_at}, Forms.{command_by, command_in}};
+ghost use Rattle.rm_lang_statement.specs.{Named.{in_order}, Agreed.{agrees_in_level, agrees_in_merge, agrees_in_sets, agrees}};
 ghost use Rattle.rm_lang_reading.specs.Backups.{as_line, is_copy, level_part, from_part, increment_line, number_of, is_cumulative, merge_line, database_line, files_line, sets_line, tag_line, keep_line, during_line, write_at, is_plain, saved, backup, backup_logs};
-ghost use Rattle.rm_lang_statement.specs.Agreed.{agrees_in_level, agrees_in_merge, agrees_in_sets, agrees};
 ghost use Rattle.rm_lang_reading.specs.Values.{write_values, kind_values, level_values, increment_choice, increment_values, merge_values, files_values, sets_values, tag_values, keep_values, during_values};
 ghost use Rattle.rm_lang_reading.specs.Language.{backup_forms};
 

@@ -1,9 +1,7 @@
 //! The statements that make a database and change it.
-ghost use Rattle.rm_lang_grammar.specs.Reading.{Gives, read};
-ghost use Rattle.rm_lang_grammar.specs.Forms.{command_by, command_in};
+ghost use Rattle.rm_lang_grammar.specs.{Reading.{Gives, read}, Forms.{command_by, command_in}};
 ghost use Rattle.rm_lang_reading.specs.Creating.{create_database, write_part, write, create_datafile, switch_logfile, archive_log, track, untrack, enable_thread, disable_thread};
-ghost use Rattle.rm_lang_reading.specs.Values.{write_values};
-ghost use Rattle.rm_lang_reading.specs.Language.{switch_forms, forms};
+ghost use Rattle.rm_lang_reading.specs.{Values.{write_values}, Language.{switch_forms, forms}};
 
 use crate::modes::mode;
 use rm_base::{Block, LAST_SCN};

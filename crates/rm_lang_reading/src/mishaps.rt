@@ -1,8 +1,6 @@
 //! The statements that stand for what may befall the devices.
-ghost use Rattle.rm_lang_grammar.specs.Reading.{Gives};
-ghost use Rattle.rm_lang_grammar.specs.Forms.{command_by, command_in};
-ghost use Rattle.rm_lang_reading.specs.Mishaps.{lose_datafile, lose_log, corrupt, remove, damage, cut, rename};
-ghost use Rattle.rm_lang_reading.specs.Language.{mishap_forms};
+ghost use Rattle.rm_lang_grammar.specs.{Reading.{Gives}, Forms.{command_by, command_in}};
+ghost use Rattle.rm_lang_reading.specs.{Mishaps.{lose_datafile, lose_log, corrupt, remove, damage, cut, rename}, Language.{mishap_forms}};
 
 use crate::texts::{new_name, plain};
 use rm_lang_grammar::Unread;

@@ -1,9 +1,7 @@
 //! The statements that change the mode.
 ghost use Rattle.std.specs.Prelude.{◌≡◌};
-ghost use Rattle.rm_lang_grammar.specs.Reading.{Gives};
-ghost use Rattle.rm_lang_grammar.specs.Forms.{command_by, command_in};
-ghost use Rattle.rm_lang_reading.specs.Modes.{shutdown, startup, reset_database, open_database, open_command};
-ghost use Rattle.rm_lang_reading.specs.Language.{mode_forms};
+ghost use Rattle.rm_lang_grammar.specs.{Reading.{Gives}, Forms.{command_by, command_in}};
+ghost use Rattle.rm_lang_reading.specs.{Modes.{shutdown, startup, reset_database, open_database, open_command}, Language.{mode_forms}};
 
 use crate::recovering::recovering;
 use rm_lang_grammar::Unread;

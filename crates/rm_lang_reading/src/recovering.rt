@@ -1,11 +1,8 @@
 //! The statements that restore and recover.
-ghost use Rattle.std.specs.Prelude.{◌≡◌};
-ghost use Rattle.std.specs.Option.{option_map};
-ghost use Rattle.rm_lang_grammar.specs.Reading.{Gives, read, maybe, one_of, begins};
-ghost use Rattle.rm_lang_grammar.specs.Forms.{command_by, command_in};
+ghost use Rattle.std.specs.{Prelude.{◌≡◌}, Option.{option_map}};
+ghost use Rattle.rm_lang_grammar.specs.{Reading.{Gives, read, maybe, one_of, begins}, Forms.{command_by, command_in}};
 ghost use Rattle.rm_lang_reading.specs.Recovering.{scn_part, log_or_time, until_line, incarnation_line, restoring, restore, restore_datafile, recovery, recover, recover_copy};
-ghost use Rattle.rm_lang_reading.specs.Values.{until_choice, until_values, incarnation_values};
-ghost use Rattle.rm_lang_reading.specs.Language.{recovery_forms};
+ghost use Rattle.rm_lang_reading.specs.{Values.{until_choice, until_values, incarnation_values}, Language.{recovery_forms}};
 
 use crate::repairs::repairing;
 use crate::texts::time;

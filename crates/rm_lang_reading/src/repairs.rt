@@ -1,9 +1,7 @@
 //! The statements that mend blocks.
 ghost use Rattle.std.specs.Prelude.{◌≡◌};
-ghost use Rattle.rm_lang_grammar.specs.Reading.{Gives, read, one_of, begins};
-ghost use Rattle.rm_lang_grammar.specs.Forms.{command_by, command_in};
-ghost use Rattle.rm_lang_reading.specs.Repairs.{corruption_line, blocks_line, ordered, block_recover};
-ghost use Rattle.rm_lang_reading.specs.Values.{blocks_values};
+ghost use Rattle.rm_lang_grammar.specs.{Reading.{Gives, read, one_of, begins}, Forms.{command_by, command_in}};
+ghost use Rattle.rm_lang_reading.specs.{Repairs.{corruption_line, blocks_line, ordered, block_recover}, Values.{blocks_values}};
 ghost use Rattle.rm_lang_reading.specs.Language.{repair_forms};
 
 use crate::backup::{in_order, optional_during, saving};

@@ -1,8 +1,6 @@
 //! RUN, and the statements inside it.
 ghost use Rattle.std.specs.Prelude.{◌≡◌, codes};
-ghost use Rattle.rm_lang_grammar.specs.Reading.{Gives};
-ghost use Rattle.rm_lang_grammar.specs.Forms.{command_by, command_in};
-ghost use Rattle.rm_lang_grammar.specs.Blocks.{goes_on, commands_in, block_at};
+ghost use Rattle.rm_lang_grammar.specs.{Reading.{Gives}, Forms.{command_by, command_in}, Blocks.{goes_on, commands_in, block_at}};
 ghost use Rattle.rm_lang_reading.specs.Language.{set_until, allocate, inner_forms};
 
 use crate::creating::creating;

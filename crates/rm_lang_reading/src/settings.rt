@@ -1,11 +1,9 @@
 //! The statements that set something.
-ghost use Rattle.rm_lang_grammar.specs.Reading.{Gives, begins, read, one_of};
-ghost use Rattle.rm_lang_grammar.specs.Forms.{command_by, command_in};
-ghost use Rattle.rm_lang_reading.specs.Settings.{policy_part, retention, parallelism, catalog};
-ghost use Rattle.rm_lang_reading.specs.Values.{retention_choice};
+ghost use Rattle.rm_lang_grammar.specs.{Reading.{Gives, begins, read, one_of}, Forms.{command_by, command_in}};
 ghost use Rattle.rm_lang_grammar.specs.Grammar.{◌▸◌, word as word_part, end};
-ghost use Rattle.std.specs.Prelude.{codes};
+ghost use Rattle.rm_lang_reading.specs.{Settings.{policy_part, retention, parallelism, catalog}, Values.{retention_choice}};
 ghost use Rattle.rm_lang_reading.specs.Language.{setting_forms};
+ghost use Rattle.std.specs.Prelude.{codes};
 
 use crate::mishaps::mishap;
 use crate::texts::plain;

@@ -1,12 +1,9 @@
 //! The statements that look after records.
-ghost use Rattle.std.specs.Prelude.{◌≡◌};
-ghost use Rattle.rm_lang_grammar.specs.Reading.{Gives, read, one_of, begins};
-ghost use Rattle.rm_lang_grammar.specs.Forms.{command_by, command_in};
-ghost use Rattle.std.specs.Prelude.{codes};
+ghost use Rattle.std.specs.Prelude.{◌≡◌, codes};
+ghost use Rattle.rm_lang_grammar.specs.{Reading.{Gives, read, one_of, begins}, Forms.{command_by, command_in}};
 ghost use Rattle.rm_lang_grammar.specs.Grammar.{◌▸◌, word as word_part, end};
 ghost use Rattle.rm_lang_reading.specs.Upkeep.{copy_or_archived, withdrawing, one_or_expired, crosscheck, validate, change, deleting, delete};
-ghost use Rattle.rm_lang_reading.specs.Values.{class_choice, change_choice, deletion_choice};
-ghost use Rattle.rm_lang_reading.specs.Language.{upkeep_forms};
+ghost use Rattle.rm_lang_reading.specs.{Values.{class_choice, change_choice, deletion_choice}, Language.{upkeep_forms}};
 
 use crate::asking::asking;
 use rm_base::Class;

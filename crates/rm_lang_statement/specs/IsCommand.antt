@@ -1,25 +1,14 @@
 -- Which commands are statements of the grammar.
-use Rattle.std.specs.Prelude.{◌-◌, ◌^◌, ◌&&◌, Bool, true, Option}
-use Rattle.std.specs.List.{list_all}
-use Rattle.rm_lang_grammar.specs.Grammar.{in_range}
-use Rattle.rm_lang_grammar.specs.Spelling.{is_capital_tag, is_shown, maybe_valid}
-use Rattle.rm_lang_statement.specs.declared.command.Until.{Until}
-use Rattle.rm_lang_statement.specs.declared.command.Until.TheVariants.{Scn, Sequence, Time}
-use Rattle.rm_lang_statement.specs.declared.command.WriteForm.{WriteForm}
-use Rattle.rm_lang_statement.specs.declared.command.BackupForm.{BackupForm}
-use Rattle.rm_lang_statement.specs.declared.command.NamedBlocks.{NamedBlocks}
-use Rattle.rm_lang_statement.specs.declared.command.RepairForm.{RepairForm}
-use Rattle.rm_lang_statement.specs.declared.command.RetentionForm.{RetentionForm}
-use Rattle.rm_lang_statement.specs.declared.command.RetentionForm.TheVariants.{Window, Redundancy, Nothing, Clear}
+use Rattle.std.specs.{Prelude.{◌-◌, ◌^◌, ◌&&◌, Bool, true, Option}, List.{list_all}}
+use Rattle.rm_lang_grammar.specs.{Grammar.{in_range}, Spelling.{is_capital_tag, is_shown, maybe_valid}}
+use Rattle.rm_lang_statement.specs.{Named.{are_named}, Texts.{content, anything, is_new_name, is_text}, Agreed.{agrees}}
+use Rattle.rm_lang_statement.specs.declared.command.{Until.{Until, TheVariants.{Scn, Sequence, Time}}, WriteForm.{WriteForm}}
+use Rattle.rm_lang_statement.specs.declared.command.{BackupForm.{BackupForm}, NamedBlocks.{NamedBlocks}, RepairForm.{RepairForm}}
+use Rattle.rm_lang_statement.specs.declared.command.RetentionForm.{RetentionForm, TheVariants.{Window, Redundancy, Nothing, Clear}}
 use Rattle.rm_lang_statement.specs.declared.command.Command.{Command}
 use Rattle.rm_lang_statement.specs.declared.command.Command.TheVariants.{CreateDatabase, CreateDatafile, Write, SwitchLogfile, ArchiveLogCurrent, Mount, OpenPlain, OpenResetlogs, Tracking, SwitchThread, ResetDatabase, Restore, Preview, Recover, RecoverTest, RecoverCopy, Backup, BackupLogs, BackupFrom, Crosscheck, ValidateAll, ChangeBackup, DeleteObsolete, DeleteBackup, DeleteExpired, ReportObsolete, ReportNeedBackup, ReportSchema, ListIncarnation, ListBackup, ListCopy, ListArchived, ShowAll, Dump, Retention, Parallelism, CatalogName, LoseDatafile, LoseLog, Remove, Damage, Cut, Rename, Corrupt, ListCorruption, BlockRecover}
-use Rattle.rm_lang_statement.specs.declared.command.Inner.{Inner}
-use Rattle.rm_lang_statement.specs.declared.command.Inner.TheVariants.{SetUntil, AllocateChannel, Plain as PlainInner}
-use Rattle.rm_lang_statement.specs.declared.command.Statement.{Statement}
-use Rattle.rm_lang_statement.specs.declared.command.Statement.TheVariants.{Plain, Run}
-use Rattle.rm_lang_statement.specs.Named.{are_named}
-use Rattle.rm_lang_statement.specs.Texts.{content, anything, is_new_name, is_text}
-use Rattle.rm_lang_statement.specs.Agreed.{agrees}
+use Rattle.rm_lang_statement.specs.declared.command.Inner.{Inner, TheVariants.{SetUntil, AllocateChannel, Plain as PlainInner}}
+use Rattle.rm_lang_statement.specs.declared.command.Statement.{Statement, TheVariants.{Plain, Run}}
 use Rattle.rm_moments.specs.Times.{is_time_text}
 
 -- a text that is kept means a moment

@@ -1,9 +1,7 @@
 -- The kinds of strings that statements have.
-use Rattle.std.specs.Prelude.{ℕ, ◌&&◌, nat_le, length, if◌then◌else◌, Bool, true, List, Some, None}
-use Rattle.std.specs.List.{list_all}
+use Rattle.std.specs.{Prelude.{ℕ, ◌&&◌, nat_le, length, if◌then◌else◌, Bool, true, List, Some, None}, List.{list_all}}
 use Rattle.rm_base.specs.Content.{padded, trimmed}
-use Rattle.rm_lang_token.specs.Tokens.{is_word_byte}
-use Rattle.rm_lang_token.specs.Spelling.{are_string_bytes}
+use Rattle.rm_lang_token.specs.{Tokens.{is_word_byte}, Spelling.{are_string_bytes}}
 use Rattle.rm_lang_grammar.specs.Grammar.{TextKind}
 use Rattle.rm_moments.specs.Times.{is_time_text}
 

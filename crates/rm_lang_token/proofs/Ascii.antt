@@ -1,11 +1,7 @@
 -- The bytes of words and strings are characters of ASCII.
-use Rattle.std.proofs.Common.{◌≡◌, ◌<◌, ℕ, Bool, List, true, take, subst, arith}
-use Rattle.std.specs.Char.{is_ascii_alphabetic}
-use Rattle.std.specs.List.{All, prefix_len}
-use Rattle.std.proofs.lemmas.Bool.Decides.{nat_tests}
-use Rattle.std.proofs.lemmas.List.{get_or-take}
-use Rattle.std.proofs.lemmas.List.Folds.{length-prefix_len}
-use Rattle.std.proofs.lemmas.List.Sums.{prefix_len_passes}
+use Rattle.std.specs.{Char.{is_ascii_alphabetic}, List.{All, prefix_len}}
+use Rattle.std.proofs.{Common.{◌≡◌, ◌<◌, ℕ, Bool, List, true, take, subst, arith}, lemmas.{Bool.Decides.{nat_tests}, List.{get_or-take}}}
+use Rattle.std.proofs.lemmas.List.{Folds.{length-prefix_len}, Sums.{prefix_len_passes}}
 use Rattle.rm_lang_token.specs.Tokens.{is_word_byte, is_string_byte}
 
 word_byte-below : (c : ℕ) → is_word_byte c ≡ true → c < 128

@@ -1,14 +1,11 @@
 -- The statements of a token list are where its endings are.
 use Rattle.std.proofs.Common.{◌≡◌, ◌<◌, ◌++◌, ◌∷◌, ◌==◌, ◌&&◌, ◌∙◌, inl, inr, ℕ, Bool, List, [], true, false, length, refl, ap, sym, arith, append_assoc, subst}
-use Rattle.std.proofs.lemmas.Bool.{and_parts, or_cases, or_parts, cases_lt, eqb-true}
-use Rattle.std.proofs.lemmas.Bool.Decides.{nat_tests}
-use Rattle.std.proofs.lemmas.List.{append-nil, map-append, take-append-le, get_or_append_left, length-append}
-use Rattle.std.proofs.lemmas.List.Sums.{fold-append}
+use Rattle.std.proofs.lemmas.Bool.{and_parts, or_cases, or_parts, cases_lt, eqb-true, Decides.{nat_tests}}
+use Rattle.std.proofs.lemmas.List.{append-nil, map-append, take-append-le, get_or_append_left, length-append, Sums.{fold-append}}
 use Rattle.std.proofs.Math.Seq.{take-append_seam, get_or-append_seam}
-use Rattle.rm_lang_token.specs.declared.token.Token.{Token}
-use Rattle.rm_lang_token.specs.declared.token.Token.TheVariants.{Word, Number, Quoted, Sign, Bad}
 use Rattle.rm_lang_token.specs.Statements.{is_the_sign, depth_after, begins_run, ends_at, cut}
 use Rattle.rm_lang_token.specs.Cuts.{open_braces, Ends, HasNoEnding, without_lines, Cuts, nothing, skipped, ended, left}
+use Rattle.rm_lang_token.specs.declared.token.Token.{Token, TheVariants.{Word, Number, Quoted, Sign, Bad}}
 
 sign-same : (c : ℕ) (t : Token) → is_the_sign c t ≡ true → t ≡ Sign c
 sign-same c (Sign d) h = ap Sign (eqb-true d c h)

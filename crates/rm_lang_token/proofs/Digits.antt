@@ -1,17 +1,10 @@
 -- The decimal digits of a number are read as this number.
+use Rattle.std.specs.{Char.{is_ascii_digit}, List.{fold, list_all}, Option.{MatchOption}, Fmt.{decimal}}
 use Rattle.std.proofs.Common.{◌≡◌, ◌≤◌, ◌<◌, ◌+◌, ◌-◌, ◌*◌, ◌/◌, ◌%◌, ◌^◌, ◌++◌, ℕ, Bool, List, [], ◌∷◌, true, false, cond, length, Option, Some, None, refl, ap, arith, nat_lt, ◌&&◌, ◌∙◌, sym, subst, inl, inr}
-use Rattle.std.specs.Char.{is_ascii_digit}
-use Rattle.std.specs.List.{fold, list_all}
-use Rattle.std.specs.Option.{MatchOption}
-use Rattle.std.specs.Fmt.{decimal}
-use Rattle.std.proofs.lemmas.Bool.{and_from, and_parts, cases_lt}
-use Rattle.std.proofs.lemmas.Bool.Decides.{nat_tests}
-use Rattle.std.proofs.lemmas.Fmt.{decimal_by_steps, length-decimal-le}
+use Rattle.std.proofs.lemmas.{Bool.{and_from, and_parts, cases_lt, Decides.{nat_tests}}, Fmt.{decimal_by_steps, length-decimal-le}}
 use Rattle.std.proofs.lemmas.List.Folds.{list_all-append}
-use Rattle.rm_lang_token.specs.declared.token.Token.{Token}
-use Rattle.rm_lang_token.specs.declared.token.Token.TheVariants.{Number, Bad}
-use Rattle.rm_lang_token.specs.Lexemes.{IsNumber, value_of}
-use Rattle.rm_lang_token.specs.Tokens.{number_after, number_token, number_or_bad}
+use Rattle.rm_lang_token.specs.{Lexemes.{IsNumber, value_of}, Tokens.{number_after, number_token, number_or_bad}}
+use Rattle.rm_lang_token.specs.declared.token.Token.{Token, TheVariants.{Number, Bad}}
 
 -- one digit more behind digits that are read as m
 number_after-push : (ds : List ℕ) (v m c : ℕ) → number_after v ds ≡ Some m → is_ascii_digit c ≡ true → m * 10 + (c - 48) < 2 ^ 64 → number_after v (ds ++ c ∷ []) ≡ Some (m * 10 + (c - 48))

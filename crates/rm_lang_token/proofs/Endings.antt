@@ -1,12 +1,8 @@
 -- Token lists that do not end a statement, in front of others.
-use Rattle.std.proofs.Common.{◌≡◌, ◌<◌, ◌++◌, ◌∷◌, ◌==◌, ◌&&◌, ◌∙◌, ℕ, Bool, List, [], true, false, not, refl, ap, sym, arith, append_assoc}
 use Rattle.std.specs.List.{list_all}
-use Rattle.std.proofs.lemmas.Bool.{and_parts}
-use Rattle.std.proofs.lemmas.Bool.Decides.{nat_tests}
-use Rattle.std.proofs.lemmas.List.{append-nil}
-use Rattle.rm_lang_token.specs.declared.token.Token.{Token}
-use Rattle.rm_lang_token.specs.Statements.{is_the_sign, begins_run}
-use Rattle.rm_lang_token.specs.Spelling.{ends_with}
+use Rattle.std.proofs.Common.{◌≡◌, ◌<◌, ◌++◌, ◌∷◌, ◌==◌, ◌&&◌, ◌∙◌, ℕ, Bool, List, [], true, false, not, refl, ap, sym, arith, append_assoc}
+use Rattle.std.proofs.lemmas.{Bool.{and_parts, Decides.{nat_tests}}, List.{append-nil}}
+use Rattle.rm_lang_token.specs.{Statements.{is_the_sign, begins_run}, Spelling.{ends_with}, declared.token.Token.{Token}}
 
 -- no brace
 abbrev pub is_no_brace : Token → Bool

@@ -1,18 +1,14 @@
 -- Bytes spell one token list.
+use Rattle.std.specs.{Char.{is_ascii_alphabetic, is_ascii_digit}, List.{list_all, prefix_len}}
 use Rattle.std.proofs.Common.{◌≡◌, ◌+◌, ◌-◌, ◌++◌, ◌∷◌, ◌==◌, ◌&&◌, ◌||◌, ◌∙◌, ◌⊎◌, ℕ, Bool, List, [], true, false, length, Some, refl, ap, sym, arith, get_or, nat_le, append_assoc}
-use Rattle.std.specs.Char.{is_ascii_alphabetic, is_ascii_digit}
-use Rattle.std.specs.List.{list_all, prefix_len}
-use Rattle.std.proofs.lemmas.Bool.{and_parts, or_parts}
-use Rattle.std.proofs.lemmas.Bool.Decides.{nat_tests}
-use Rattle.rm_lang_token.specs.declared.token.Token.{Token}
-use Rattle.rm_lang_token.specs.declared.token.Token.TheVariants.{Word, Number, Quoted, Sign, Bad}
+use Rattle.std.proofs.lemmas.Bool.{and_parts, or_parts, Decides.{nat_tests}}
 use Rattle.rm_lang_token.specs.Tokens.{is_separator, is_word_byte, is_string_byte, is_sign, stays_in_line, number_token, lexeme, tokens_from}
 use Rattle.rm_lang_token.specs.Spelling.{is_name, are_string_bytes}
 use Rattle.rm_lang_token.specs.Lexemes.{NoneInFront, value_of, IsNumber, BeginsWithString, begins_lexeme, Spelled, nothing, line_feed, separator, comment, word, number, bad_number, string, bad_string, sign, other}
+use Rattle.rm_lang_token.specs.declared.token.Token.{Token, TheVariants.{Word, Number, Quoted, Sign, Bad}}
 use Rattle.rm_lang_token.proofs.Reading.{list_all-wider, prefix_len-whole, tokens_from-skip, tokens_from-lexeme}
 use Rattle.rm_lang_token.proofs.ReadBack.{word-stays, digit-word, lexeme-word, lexeme-number, lexeme-string, lexeme-sign, token_text-stays}
-use Rattle.rm_lang_token.proofs.Digits.{ReadsNumber, is_number, is_bad, number_token-reads}
-use Rattle.rm_lang_token.proofs.Spelled.{begins_string}
+use Rattle.rm_lang_token.proofs.{Digits.{ReadsNumber, is_number, is_bad, number_token-reads}, Spelled.{begins_string}}
 
 number-only : (w : List ℕ) (t : Token) → ReadsNumber w t → IsNumber w → t ≡ Number (value_of w)
 number-only w _ (is_number h) n = refl

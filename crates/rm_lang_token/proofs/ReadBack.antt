@@ -1,19 +1,13 @@
 -- Tokens that are written are read back.
+use Rattle.std.specs.{Char.{is_ascii_alphabetic, is_ascii_digit}, Fmt.{decimal}, List.{list_all, prefix_len}}
 use Rattle.std.proofs.Common.{◌≡◌, ◌<◌, ◌+◌, ◌^◌, ◌++◌, ◌∷◌, ◌==◌, ◌∙◌, ℕ, Bool, List, [], true, false, cond, length, map, Some, refl, ap, arith, append_assoc, nat_le, not, length-append}
-use Rattle.std.specs.Char.{is_ascii_alphabetic, is_ascii_digit}
-use Rattle.std.specs.Fmt.{decimal}
-use Rattle.std.specs.List.{list_all, prefix_len}
-use Rattle.std.proofs.lemmas.Bool.{and_from, and_parts}
-use Rattle.std.proofs.lemmas.Bool.Decides.{nat_tests}
-use Rattle.std.proofs.lemmas.Fmt.{decimal_nonempty}
-use Rattle.std.proofs.lemmas.List.Folds.{list_all-append}
+use Rattle.std.proofs.lemmas.{Bool.{and_from, and_parts, Decides.{nat_tests}}, Fmt.{decimal_nonempty}, List.Folds.{list_all-append}}
 use Rattle.std.proofs.Math.Seq.{take-append_seam, get_or-append_seam}
-use Rattle.rm_lang_token.specs.declared.token.Token.{Token}
-use Rattle.rm_lang_token.specs.declared.token.Token.TheVariants.{Word, Number, Quoted, Sign, Bad}
 use Rattle.rm_lang_token.specs.Lexemes.{NoneInFront}
 use Rattle.rm_lang_token.specs.Tokens.{is_separator, is_word_byte, is_string_byte, is_sign, stays_in_line, number_token, lexeme, tokens_from, tokens, feeds}
 use Rattle.rm_lang_token.specs.Statements.{is_the_sign, depth_after, ends_at, cut, nothing_begun, statements}
 use Rattle.rm_lang_token.specs.Spelling.{are_string_bytes, is_plain, token_text, tokens_text, ends_with, is_statement}
+use Rattle.rm_lang_token.specs.declared.token.Token.{Token, TheVariants.{Word, Number, Quoted, Sign, Bad}}
 use Rattle.rm_lang_token.proofs.Reading.{list_all-wider, prefix_len-whole, tokens_from-lexeme, feeds-append}
 use Rattle.rm_lang_token.proofs.Digits.{decimal-read, number_token-decimal}
 

@@ -1,12 +1,9 @@
 -- How the bytes of one token are read, where others follow.
-use Rattle.std.proofs.Common.{◌≡◌, ◌≤◌, ◌+◌, ◌-◌, ◌++◌, ◌==◌, ℕ, Bool, List, [], ◌∷◌, true, false, length, take, drop, Some, refl, ap, arith, ◌∙◌, sym, suc, subst}
 use Rattle.std.specs.List.{list_all, prefix_len}
-use Rattle.std.proofs.lemmas.Bool.{and_from, and_parts}
-use Rattle.std.proofs.lemmas.Bool.Decides.{nat_tests}
-use Rattle.rm_lang_token.specs.declared.token.Token.{Token}
-use Rattle.rm_lang_token.specs.declared.scan.Lexeme.{Lexeme}
-use Rattle.rm_lang_token.specs.Lexemes.{NoneInFront}
-use Rattle.rm_lang_token.specs.Tokens.{stays_in_line, line_after, lexeme, tokens_from, feeds, placed}
+use Rattle.std.proofs.Common.{◌≡◌, ◌≤◌, ◌+◌, ◌-◌, ◌++◌, ◌==◌, ℕ, Bool, List, [], ◌∷◌, true, false, length, take, drop, Some, refl, ap, arith, ◌∙◌, sym, suc, subst}
+use Rattle.std.proofs.lemmas.Bool.{and_from, and_parts, Decides.{nat_tests}}
+use Rattle.rm_lang_token.specs.{Lexemes.{NoneInFront}, Tokens.{stays_in_line, line_after, lexeme, tokens_from, feeds, placed}}
+use Rattle.rm_lang_token.specs.declared.{token.Token.{Token}, scan.Lexeme.{Lexeme}}
 
 -- what passes a narrower test passes a wider one
 pub list_all-wider : (p q : ℕ → Bool) → ((c : ℕ) → p c ≡ true → q c ≡ true) → (cs : List ℕ) → list_all p cs ≡ true → list_all q cs ≡ true

@@ -1,22 +1,15 @@
 -- The tokens of a script are those of its lexemes.
+use Rattle.std.specs.{Char.{is_ascii_alphabetic, is_ascii_digit}, List.{list_all, prefix_len}}
 use Rattle.std.proofs.Common.{◌≡◌, ◌<◌, ◌+◌, ◌-◌, ◌++◌, ◌∷◌, ◌==◌, ◌&&◌, ◌∙◌, ◌⊎◌, inl, inr, ℕ, zero, suc, Bool, List, [], true, false, length, take, drop, Option, Some, None, refl, ap, sym, arith, subst, get_or, nat_le, drop-cons}
-use Rattle.std.specs.Char.{is_ascii_alphabetic, is_ascii_digit}
-use Rattle.std.specs.List.{list_all, prefix_len}
-use Rattle.std.proofs.lemmas.Bool.{and_from, and_parts, cases_lt, eqb-true}
-use Rattle.std.proofs.lemmas.Bool.Decides.{nat_tests}
-use Rattle.std.proofs.lemmas.List.{take-append-drop}
-use Rattle.std.proofs.lemmas.List.Folds.{list_all-append, length-prefix_len}
-use Rattle.std.proofs.Math.ListN.{get_or-eq_default}
+use Rattle.std.proofs.lemmas.{Bool.{and_from, and_parts, cases_lt, eqb-true, Decides.{nat_tests}}, List.{take-append-drop}}
+use Rattle.std.proofs.{lemmas.List.Folds.{list_all-append, length-prefix_len}, Math.ListN.{get_or-eq_default}}
 use Rattle.std.proofs.Math.Seq.{get_or-append_seam, take-suc}
-use Rattle.rm_lang_token.specs.declared.token.Token.{Token}
-use Rattle.rm_lang_token.specs.declared.token.Token.TheVariants.{Word, Quoted, Sign, Bad}
-use Rattle.rm_lang_token.specs.declared.scan.Lexeme.{Lexeme}
 use Rattle.rm_lang_token.specs.Tokens.{is_separator, is_word_byte, is_string_byte, is_sign, stays_in_line, number_token, lexeme, line_after, placed, tokens_from, tokens}
 use Rattle.rm_lang_token.specs.Spelling.{is_name, are_string_bytes}
 use Rattle.rm_lang_token.specs.Lexemes.{BeginsWithString, begins_lexeme, Spelled, nothing, line_feed, separator, comment, word, number, bad_number, string, bad_string, sign, other}
+use Rattle.rm_lang_token.specs.declared.{token.Token.{Token, TheVariants.{Word, Quoted, Sign, Bad}}, scan.Lexeme.{Lexeme}}
 use Rattle.rm_lang_token.proofs.Reading.{list_all-wider, prefix_len-whole, line_after-same, IsFront, front-at}
-use Rattle.rm_lang_token.proofs.Digits.{ReadsNumber, is_number, is_bad, number_token-reads}
-use Rattle.rm_lang_token.proofs.ReadBack.{word-stays, string-stays}
+use Rattle.rm_lang_token.proofs.{Digits.{ReadsNumber, is_number, is_bad, number_token-reads}, ReadBack.{word-stays, string-stays}}
 
 -- a lexeme at the front, and then what the bytes behind it spell
 from_lexeme : (line c : ℕ) (cs : List ℕ) (size : ℕ) (o : Option Token) → lexeme c cs ≡ record { size = 1 + size; token = o } →

@@ -1,8 +1,6 @@
 -- Where the statements of a token list are.
 use Rattle.std.specs.Prelude.{ℕ, ◌≡◌, ◌<◌, ◌⊎◌, List, [], ◌∷◌, ◌++◌, length, take, map, fold, slice_index_or, IsTrue}
-use Rattle.rm_lang_token.specs.declared.token.Token.{Token}
-use Rattle.rm_lang_token.specs.declared.token.Token.TheVariants.{Sign}
-use Rattle.rm_lang_token.specs.Statements.{depth_after, begins_run}
+use Rattle.rm_lang_token.specs.{Statements.{depth_after, begins_run}, declared.token.Token.{Token, TheVariants.{Sign}}}
 
 -- how many braces are open behind these tokens
 abbrev pub open_braces : List Token → ℕ

@@ -1,11 +1,8 @@
 -- The lexemes that a script is made of.
 use Rattle.std.specs.Prelude.{ℕ, ◌≡◌, ◌≤◌, ◌<◌, ◌+◌, ◌-◌, ◌*◌, ◌^◌, ◌==◌, ◌||◌, ◌⊎◌, ⊤, Bool, List, [], ◌∷◌, ◌++◌, length, fold, IsTrue, IsFalse}
-use Rattle.std.specs.Char.{is_ascii_digit, is_ascii_alphabetic}
-use Rattle.std.specs.List.{list_all}
-use Rattle.rm_lang_token.specs.declared.token.Token.{Token}
-use Rattle.rm_lang_token.specs.declared.token.Token.TheVariants.{Word, Number, Quoted, Sign, Bad}
-use Rattle.rm_lang_token.specs.Tokens.{is_separator, is_word_byte, is_sign, stays_in_line}
-use Rattle.rm_lang_token.specs.Spelling.{is_name, are_string_bytes}
+use Rattle.std.specs.{Char.{is_ascii_digit, is_ascii_alphabetic}, List.{list_all}}
+use Rattle.rm_lang_token.specs.{Tokens.{is_separator, is_word_byte, is_sign, stays_in_line}, Spelling.{is_name, are_string_bytes}}
+use Rattle.rm_lang_token.specs.declared.token.Token.{Token, TheVariants.{Word, Number, Quoted, Sign, Bad}}
 
 -- the bytes do not begin with one that passes the test
 abbrev pub NoneInFront : (ℕ → Bool) → List ℕ → Type 0

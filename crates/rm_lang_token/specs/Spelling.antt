@@ -1,12 +1,8 @@
 -- Tokens as text.
 use Rattle.std.specs.Prelude.{ℕ, ◌^◌, ◌==◌, ◌&&◌, nat_lt, nat_le, not, if◌then◌else◌, Bool, false, List, [], ◌∷◌, ◌++◌, length}
-use Rattle.std.specs.Char.{is_ascii_alphabetic}
-use Rattle.std.specs.Fmt.{decimal}
-use Rattle.std.specs.List.{list_all}
-use Rattle.rm_lang_token.specs.declared.token.Token.{Token}
-use Rattle.rm_lang_token.specs.declared.token.Token.TheVariants.{Word, Number, Quoted, Sign, Bad}
-use Rattle.rm_lang_token.specs.Tokens.{is_word_byte, is_string_byte, is_sign}
-use Rattle.rm_lang_token.specs.Statements.{is_the_sign, depth_after, ends_at}
+use Rattle.std.specs.{Char.{is_ascii_alphabetic}, Fmt.{decimal}, List.{list_all}}
+use Rattle.rm_lang_token.specs.{Tokens.{is_word_byte, is_string_byte, is_sign}, Statements.{is_the_sign, depth_after, ends_at}}
+use Rattle.rm_lang_token.specs.declared.token.Token.{Token, TheVariants.{Word, Number, Quoted, Sign, Bad}}
 
 -- what can stand between quotes: at most 64 string bytes
 abbrev pub are_string_bytes : List ℕ → Bool

@@ -1,6 +1,5 @@
 -- What the splitter of a script holds.
-use Rattle.rm_lang_token.specs.declared.split.Splitter.{Splitter}
-use Rattle.rm_lang_token.specs.Statements.{Begun}
+use Rattle.rm_lang_token.specs.{Statements.{Begun}, declared.split.Splitter.{Splitter}}
 
 -- the statement that has begun
 abbrev pub begun_of : Splitter → Begun

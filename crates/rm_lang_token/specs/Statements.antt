@@ -1,9 +1,7 @@
 -- The statements of a token list.
 use Rattle.std.specs.Prelude.{ℕ, ◌+◌, ◌-◌, ◌==◌, ◌&&◌, ◌||◌, if◌then◌else◌, Bool, false, List, [], ◌∷◌, ◌++◌, length, codes}
 use Rattle.std.specs.Str.{str_eq_ignore_ascii_case}
-use Rattle.rm_lang_token.specs.declared.token.Token.{Token}
-use Rattle.rm_lang_token.specs.declared.token.Token.TheVariants.{Word, Sign}
-use Rattle.rm_lang_token.specs.Tokens.{tokens}
+use Rattle.rm_lang_token.specs.{Tokens.{tokens}, declared.token.Token.{Token, TheVariants.{Word, Sign}}}
 
 abbrev pub is_word : List ℕ → Token → Bool
 is_word name (Word w) = str_eq_ignore_ascii_case w name

@@ -1,10 +1,7 @@
 -- The tokens of a byte list.
 use Rattle.std.specs.Prelude.{ℕ, zero, suc, ◌+◌, ◌*◌, ◌-◌, ◌^◌, ◌==◌, ◌&&◌, ◌||◌, nat_lt, nat_le, not, if◌then◌else◌, Bool, Option, Some, None, List, [], ◌∷◌, ◌++◌, length, take, slice_index}
-use Rattle.std.specs.List.{prefix_len}
-use Rattle.std.specs.Char.{is_ascii_digit, is_ascii_alphabetic, is_ascii_alphanumeric}
-use Rattle.rm_lang_token.specs.declared.token.Token.{Token}
-use Rattle.rm_lang_token.specs.declared.scan.Lexeme.{Lexeme}
-use Rattle.rm_lang_token.specs.declared.token.Token.TheVariants.{Word, Number, Quoted, Sign, Bad}
+use Rattle.std.specs.{List.{prefix_len}, Char.{is_ascii_digit, is_ascii_alphabetic, is_ascii_alphanumeric}}
+use Rattle.rm_lang_token.specs.declared.{token.Token.{Token, TheVariants.{Word, Number, Quoted, Sign, Bad}}, scan.Lexeme.{Lexeme}}
 
 -- space, tab, carriage return and line feed
 abbrev pub is_separator : ℕ → Bool

@@ -1,10 +1,7 @@
 //! What the definitions of tokens and statements mean.
 ghost use Rattle.std.specs.Prelude.{◌≡◌, ◌↔◌, List, ℕ};
+ghost use Rattle.rm_lang_token.specs.{Tokens.{tokens}, Statements.{statements}, Lexemes.{Spelled}, Cuts.{Cuts}};
 ghost use Rattle.rm_lang_token.specs.declared.token.Token.{Token as TokenOf};
-ghost use Rattle.rm_lang_token.specs.Tokens.{tokens};
-ghost use Rattle.rm_lang_token.specs.Statements.{statements};
-ghost use Rattle.rm_lang_token.specs.Lexemes.{Spelled};
-ghost use Rattle.rm_lang_token.specs.Cuts.{Cuts};
 
 /// Each byte of a script belongs to one lexeme, and the tokens of the script are those of its lexemes.
 pub fn a_script_is_its_lexemes()

@@ -1,6 +1,5 @@
 //! One lexeme of a script: a separator, a comment or a token.
-ghost use Rattle.std.specs.Prelude.{◌≡◌, ◌≤◌, ◌<◌, ◌∷◌, IfOk, IsTrue, All, length};
-ghost use Rattle.std.specs.Char.{is_ascii_digit, is_ascii_alphabetic};
+ghost use Rattle.std.specs.{Prelude.{◌≡◌, ◌≤◌, ◌<◌, ◌∷◌, IfOk, IsTrue, All, length}, Char.{is_ascii_digit, is_ascii_alphabetic}};
 ghost use Rattle.std.specs.List.{prefix_len};
 ghost use Rattle.rm_lang_token.specs.Tokens.{is_separator, is_word_byte, is_string_byte, is_sign, stays_in_line, number_after, number_token, word_lexeme, number_lexeme, string_lexeme, lexeme};
 

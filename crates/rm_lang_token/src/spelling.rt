@@ -1,9 +1,6 @@
 //! Tokens as text.
-ghost use Rattle.std.specs.Prelude.{◌≡◌, ◌++◌, ◌∷◌, [], IsTrue, IfOk, OnOk, map};
-ghost use Rattle.std.specs.Fmt.{decimal};
-ghost use Rattle.std.specs.List.{list_all};
-ghost use Rattle.rm_lang_token.specs.Tokens.{is_word_byte, is_string_byte, tokens as tokens_in, feeds};
-ghost use Rattle.rm_lang_token.specs.Statements.{statements};
+ghost use Rattle.std.specs.{Prelude.{◌≡◌, ◌++◌, ◌∷◌, [], IsTrue, IfOk, OnOk, map}, Fmt.{decimal}, List.{list_all}};
+ghost use Rattle.rm_lang_token.specs.{Tokens.{is_word_byte, is_string_byte, tokens as tokens_in, feeds}, Statements.{statements}};
 ghost use Rattle.rm_lang_token.specs.Spelling.{are_string_bytes, is_name, is_plain, is_statement, token_text, tokens_text};
 
 use crate::scan::{is_string_byte, is_word_byte};

@@ -1,9 +1,8 @@
 //! The statements of a script.
 ghost use Rattle.std.specs.Prelude.{◌≡◌, ◌≤◌, ◌<◌, ◌+◌, ◌^◌, ◌++◌, ◌∷◌, [], List, ℕ, IfOk, OnOk};
-ghost use Rattle.rm_lang_token.specs.declared.token.Token.{Token as TokenOf};
 ghost use Rattle.rm_lang_token.specs.Tokens.{feeds, line_after, lexeme, placed, tokens_from};
 ghost use Rattle.rm_lang_token.specs.Statements.{begins_run, ends_at, depth_after, line_of, cut, left_over, statements};
-ghost use Rattle.rm_lang_token.specs.Splitter.{begun_of};
+ghost use Rattle.rm_lang_token.specs.{Splitter.{begun_of}, declared.token.Token.{Token as TokenOf}};
 
 use crate::scan::{Lexeme, front_lexeme};
 use crate::token::Token;

@@ -1,25 +1,14 @@
 -- What `clap` makes of words of the form `--name=value`, over the command of any form.
+use Rattle.std.specs.{Prelude.{count_by, is_some, fold, if◌then◌else◌}, List.{list_all, list_any}, Str.{bytes_eq}}
 use Rattle.std.proofs.Common.{◌≡◌, ◌∙◌, ◌&&◌, ◌||◌, ◌++◌, ◌∷◌, [], ℕ, ◌+◌, ◌<◌, Bool, List, Option, Some, None, true, false, map, not, refl, sym, ap, cond, append-nil, append_assoc, true≢false, take, length, get_or}
-use Rattle.std.specs.Prelude.{count_by, is_some, fold, if◌then◌else◌}
-use Rattle.std.specs.List.{list_all, list_any}
-use Rattle.std.proofs.lemmas.List.{map-append, take_more}
-use Rattle.std.proofs.lemmas.List.Sums.{fold-append}
-use Rattle.std.specs.Str.{bytes_eq}
-use Rattle.std.proofs.lemmas.Slice.Eq.{bytes_eq-Decides}
-use Rattle.clap.specs.Kinds.{Kinds, or_else}
-use Rattle.clap.specs.Lexer.{name_and_value}
-use Rattle.clap.specs.Words.{App, Row, Rule, is_simple, is_simple_and_free, with_rule}
+use Rattle.std.proofs.lemmas.{List.{map-append, take_more, Sums.{fold-append}}, Slice.Eq.{bytes_eq-Decides}}
+use Rattle.clap.specs.{Kinds.{Kinds, or_else}, Lexer.{name_and_value}, Words.{App, Row, Rule, is_simple, is_simple_and_free, with_rule}}
 use Rattle.clap.specs.Walk.{Held, Walk, after_step, arg_by_long, at_row, first_of, has_row, idle, is_early_multiple, more_values, with_values, without, walk_from, walked, long_met, after_flag}
-use Rattle.clap.specs.Faults.{long_fault, step_fault, turn_fault}
-use Rattle.clap.specs.Simple.{Shape, filled, filled_from, on_top, with_index}
-use Rattle.clap.specs.Takes.{is_given}
-use Rattle.clap.specs.declared.parser.matches.ValueSource.TheVariants.{CommandLine}
-use Rattle.clap.specs.declared.builder.value_parser.Reading.TheVariants as reading
-use Rattle.clap.specs.declared.error.kind.ErrorKind.TheVariants as kind
-use Rattle.rm_lang_words.specs.declared.form.Entry.{Entry as EntryInCode}
-use Rattle.rm_lang_words.specs.Options.{Given, Text}
-use Rattle.rm_lang_words.specs.Form.{Entry, Form, entry_of, form_of, is_name, is_named, value_of}
-use Rattle.rm_lang_words.specs.Clap.{app_of_form, base, rule_of_entry}
+use Rattle.clap.specs.{Faults.{long_fault, step_fault, turn_fault}, Simple.{Shape, filled, filled_from, on_top, with_index}}
+use Rattle.clap.specs.{Takes.{is_given}, declared.parser.matches.ValueSource.TheVariants.{CommandLine}}
+use Rattle.clap.specs.declared.{builder.value_parser.Reading.TheVariants as reading, error.kind.ErrorKind.TheVariants as kind}
+use Rattle.rm_lang_words.specs.{Options.{Given, Text}, Form.{Entry, Form, entry_of, form_of, is_name, is_named, value_of}}
+use Rattle.rm_lang_words.specs.{Clap.{app_of_form, base, rule_of_entry}, declared.form.Entry.{Entry as EntryInCode}}
 
 -- ---- the command of a form
 

@@ -1,9 +1,8 @@
 -- One step of the reader of options: the options before stand for what was read.
-use Rattle.std.proofs.Common.{◌≡◌, ◌++◌, ◌∷◌, [], Bool, List, Option, Some, None, true, false, map, refl, sym, ap, append_assoc, ◌∙◌}
 use Rattle.std.specs.Prelude.{if◌then◌else◌, option_map}
+use Rattle.std.proofs.Common.{◌≡◌, ◌++◌, ◌∷◌, [], Bool, List, Option, Some, None, true, false, map, refl, sym, ap, append_assoc, ◌∙◌}
 use Rattle.rm_lang_words.specs.Options.{Given, Text, behind_hyphens, given_behind, is_value, option_word, split, split_word, with_given}
-use Rattle.rm_lang_words.specs.Clap.{one_word}
-use Rattle.rm_lang_words.specs.Reading.{IsReadOn, IsRefused, with_left, words_behind}
+use Rattle.rm_lang_words.specs.{Clap.{one_word}, Reading.{IsReadOn, IsRefused, with_left, words_behind}}
 
 pub pushed : (before new : List Text) (name value : Text) (others : Option (List Given)) → is_value value ≡ true
     → new ≡ before ++ one_word (name, value) ∷ [] → words_behind before (with_given name value others) ≡ words_behind new others

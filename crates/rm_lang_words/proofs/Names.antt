@@ -1,9 +1,7 @@
 -- No name that words give has `=`.
+use Rattle.std.specs.{Prelude.{if◌then◌else◌, option_map}, List.{before_first, position_or_len}}
 use Rattle.std.proofs.Common.{◌≡◌, ◌∙◌, ◌∷◌, ◌<◌, ◌==◌, [], Bool, List, Option, Some, None, true, false, sym, ap, get_or, take, arith, true≢false}
-use Rattle.std.proofs.lemmas.List.Sums.{fails_before_first}
-use Rattle.std.proofs.lemmas.Grind.{common_steps}
-use Rattle.std.specs.Prelude.{if◌then◌else◌, option_map}
-use Rattle.std.specs.List.{before_first, position_or_len}
+use Rattle.std.proofs.lemmas.{List.Sums.{fails_before_first}, Grind.{common_steps}}
 use Rattle.clap.proofs.CutLemmas.{Lacks}
 use Rattle.rm_lang_words.specs.Options.{Given, Text, behind_hyphens, given_behind, is_equals, is_value, split, split_word, option_word, with_given}
 use Rattle.rm_lang_words.proofs.Walks.{Plain}

@@ -1,11 +1,8 @@
 -- The number between two bounds that a text spells.
+use Rattle.std.specs.{Prelude.{if◌then◌else◌, nat_le, nat_lt}, Str.{all_ascii_digits}}
 use Rattle.std.proofs.Common.{sym, ◌≡◌, ◌&&◌, ◌<◌, ◌≤◌, ℕ, Bool, Some, None, true, false, refl, length, lt-ltb, ltb-true, rules}
-use Rattle.std.specs.Prelude.{if◌then◌else◌, nat_le, nat_lt}
-use Rattle.std.specs.Str.{all_ascii_digits}
-use Rattle.std.proofs.lemmas.Bool.{leb-true}
-use Rattle.std.proofs.lemmas.Str.Parse.{IsNumeralModel, numerals_by_fold}
-use Rattle.rm_lang_words.specs.Options.{Text}
-use Rattle.rm_lang_words.specs.Form.{number_behind, number_in}
+use Rattle.std.proofs.lemmas.{Bool.{leb-true}, Str.Parse.{IsNumeralModel, numerals_by_fold}}
+use Rattle.rm_lang_words.specs.{Options.{Text}, Form.{number_behind, number_in}}
 
 pub own : IsNumeralModel (λ ds. all_ascii_digits ds ≡ true) (number_behind 0)
 own = numerals_by_fold _ (search rules) number_behind (search rules)

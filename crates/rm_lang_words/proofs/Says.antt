@@ -1,16 +1,11 @@
 -- What the words of a program say by a form, by what `clap` finds.
+use Rattle.std.specs.{Prelude.{is_some, unwrap_or}, List.{list_all, list_any}, Option.{option_map_or}}
 use Rattle.std.proofs.Common.{◌≡◌, ◌≢◌, ◌∙◌, ◌&&◌, ◌||◌, ◌∷◌, [], Bool, List, Option, Some, None, true, false, not, map, refl, sym, ap, ap₂}
-use Rattle.std.specs.Prelude.{is_some, unwrap_or}
-use Rattle.std.specs.List.{list_all, list_any}
-use Rattle.std.specs.Option.{option_map_or}
 use Rattle.clap.specs.declared.parser.matches.ArgMatches.{ArgMatches}
 use Rattle.rm_lang_words.specs.Options.{Given, Text, given_in}
 use Rattle.rm_lang_words.specs.Form.{Entry, Form, accepts, are_options, has_value, is_flag, is_met, is_met_by, obeys, value_of}
-use Rattle.rm_lang_words.specs.Reading.{AreOf, AreRead, words_behind}
-use Rattle.rm_lang_words.specs.Clap.{all_met, faults, found, one_word, value_at}
-use Rattle.rm_lang_words.proofs.Finds.{Finds, finds, lacks, missing}
-use Rattle.rm_lang_words.proofs.Names.{PlainIn, plain_behind}
-use Rattle.rm_lang_words.proofs.Walks.{Plain, filled}
+use Rattle.rm_lang_words.specs.{Reading.{AreOf, AreRead, words_behind}, Clap.{all_met, faults, found, one_word, value_at}}
+use Rattle.rm_lang_words.proofs.{Finds.{Finds, finds, lacks, missing}, Names.{PlainIn, plain_behind}, Walks.{Plain, filled}}
 
 -- ---- options
 

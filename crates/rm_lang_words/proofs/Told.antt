@@ -1,21 +1,13 @@
 -- What is said by words that were read by a form: their texts and numbers.
-use Rattle.std.proofs.Common.{arith, ◌≡◌, ◌∙◌, ◌≤◌, ◌&&◌, ℕ, Bool, List, [], Option, Some, None, Result, Ok, Err, true, false, not, refl, sym, ap, IfSome, subst}
 use Rattle.std.specs.Prelude.{if◌then◌else◌, is_some, length, nat_le, nat_lt, option_and_then, option_map, slice_get, unwrap_or}
-use Rattle.std.specs.List.{list_all}
-use Rattle.std.specs.Option.{option_map_or}
-use Rattle.std.specs.Result.{IsErrAnd}
-use Rattle.std.specs.Str.{all_ascii_digits}
-use Rattle.std.proofs.lemmas.Bool.{le-leb, leb-true}
-use Rattle.std.proofs.lemmas.List.Sums.{AllPass-from_list_all}
-use Rattle.std.proofs.lemmas.Option.{get_or_from_slice_get, slice_get_within}
+use Rattle.std.specs.{List.{list_all}, Option.{option_map_or}, Result.{IsErrAnd}, Str.{all_ascii_digits}}
+use Rattle.std.proofs.Common.{arith, ◌≡◌, ◌∙◌, ◌≤◌, ◌&&◌, ℕ, Bool, List, [], Option, Some, None, Result, Ok, Err, true, false, not, refl, sym, ap, IfSome, subst}
+use Rattle.std.proofs.lemmas.{Bool.{le-leb, leb-true}, List.Sums.{AllPass-from_list_all}, Option.{get_or_from_slice_get, slice_get_within}}
 use Rattle.clap.specs.declared.parser.matches.ArgMatches.{ArgMatches}
-use Rattle.rm_lang_words.specs.declared.faults.WordsFault.{WordsFault}
-use Rattle.rm_lang_words.specs.declared.faults.WordsFault.TheVariants.{Bad, NoMemory}
-use Rattle.rm_lang_words.specs.declared.form.Kind.TheVariants.{Number}
 use Rattle.rm_lang_words.specs.Options.{Given, Text, given_in}
 use Rattle.rm_lang_words.specs.Form.{Entry, Form, accepts, are_options, has_value, is_flag, is_met, number_behind, number_in, number_of, obeys, said_by, text_of, value_of}
-use Rattle.rm_lang_words.specs.Reading.{AreRead, Fails, Gives, words_behind}
-use Rattle.rm_lang_words.specs.Clap.{value_at}
+use Rattle.rm_lang_words.specs.{Reading.{AreRead, Fails, Gives, words_behind}, Clap.{value_at}, declared.faults.WordsFault.{WordsFault}}
+use Rattle.rm_lang_words.specs.declared.{faults.WordsFault.TheVariants.{Bad, NoMemory}, form.Kind.TheVariants.{Number}}
 
 -- words that are not accepted say nothing
 pub untold : {S : Type 0} (form : Form) (say : List Given → S) (asked : List Text) → accepts form asked ≡ false → said_by form say asked ≡ None

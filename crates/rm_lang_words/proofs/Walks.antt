@@ -1,15 +1,9 @@
 -- The walk of `clap` over words of the form `--name=value`, by the command of any form.
-use Rattle.std.proofs.Common.{◌≡◌, ◌∙◌, ◌&&◌, ◌++◌, ◌∷◌, [], ℕ, Bool, List, Some, true, false, not, map, refl, sym, ap, subst, append_assoc, append-nil, true≢false}
 use Rattle.std.specs.Prelude.{fold}
-use Rattle.clap.specs.Kinds.{Kinds, or_else}
-use Rattle.clap.specs.Lexer.{name_and_value}
-use Rattle.clap.specs.Walk.{Walk, has_row, walked}
-use Rattle.clap.specs.Faults.{turn_fault, walk_fault}
-use Rattle.clap.proofs.CutLemmas.{Lacks}
-use Rattle.clap.proofs.LexerLemmas.{name_and_value-at}
-use Rattle.rm_lang_words.specs.Options.{Given, Text}
-use Rattle.rm_lang_words.specs.Form.{Form, is_name, is_named, are_options}
-use Rattle.rm_lang_words.specs.Clap.{one_word}
+use Rattle.std.proofs.Common.{◌≡◌, ◌∙◌, ◌&&◌, ◌++◌, ◌∷◌, [], ℕ, Bool, List, Some, true, false, not, map, refl, sym, ap, subst, append_assoc, append-nil, true≢false}
+use Rattle.clap.specs.{Kinds.{Kinds, or_else}, Lexer.{name_and_value}, Walk.{Walk, has_row, walked}, Faults.{turn_fault, walk_fault}}
+use Rattle.clap.proofs.{CutLemmas.{Lacks}, LexerLemmas.{name_and_value-at}}
+use Rattle.rm_lang_words.specs.{Options.{Given, Text}, Form.{Form, is_name, is_named, are_options}, Clap.{one_word}}
 use Rattle.rm_lang_words.proofs.Clap.{Known, at, found_fault, found_walk, known, named_rows, row, rules, shape, unknown}
 
 unfoldable pub is_empty : Kinds → Bool

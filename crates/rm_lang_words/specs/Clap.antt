@@ -1,13 +1,9 @@
 -- The command line as `clap` reads it, and the words that it is handed.
-use Rattle.std.specs.Prelude.{◌++◌, Bool, List, Option, ◌∷◌, Some, true, codes, fold}
-use Rattle.std.specs.List.{list_all}
+use Rattle.std.specs.{Prelude.{◌++◌, Bool, List, Option, ◌∷◌, Some, true, codes, fold}, List.{list_all}}
 use Rattle.clap.specs.Kinds.{Kinds}
 use Rattle.clap.specs.Words.{App, Rule, fault_of, first_of, first_value, found_of, matches_of, new_app, new_rule, with_rule}
-use Rattle.clap.specs.Simple.{on_top}
-use Rattle.clap.specs.declared.builder.ArgAction.TheVariants.{Set}
-use Rattle.clap.specs.declared.parser.matches.ArgMatches.{ArgMatches}
-use Rattle.rm_lang_words.specs.Options.{Given, Text}
-use Rattle.rm_lang_words.specs.Form.{Entry, Form, is_met_by}
+use Rattle.clap.specs.{Simple.{on_top}, declared.{builder.ArgAction.TheVariants.{Set}, parser.matches.ArgMatches.{ArgMatches}}}
+use Rattle.rm_lang_words.specs.{Options.{Given, Text}, Form.{Entry, Form, is_met_by}}
 
 -- the option as one word, `--name=value`
 abbrev pub one_word : Given → Text

@@ -1,8 +1,7 @@
 -- The words of `duplicate`, and what they say:
 -- `--store DIR --to DIR --catalog FILE --dbid D --number N --until S [--from M] [--incarnation I] [--channels C]`.
 use Rattle.std.specs.Prelude.{ℕ, true, false, List, [], ◌∷◌, Option, codes}
-use Rattle.rm_lang_words.specs.Options.{Given, Text}
-use Rattle.rm_lang_words.specs.Form.{Form, number_of, number_or_zero, said_by, text_of}
+use Rattle.rm_lang_words.specs.{Options.{Given, Text}, Form.{Form, number_of, number_or_zero, said_by, text_of}}
 use Rattle.rm_lang_words.specs.declared.form.Kind.TheVariants.{Text as AnyText, Number}
 
 -- two stores and a catalog; the duplicate's dbid from 1 and its number, to 2^32 - 1 each, and an SCN to 2^64 - 1; and where they are given

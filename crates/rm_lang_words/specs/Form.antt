@@ -1,11 +1,7 @@
 -- What the words of a program may say, as a form, and which options obey it.
 use Rattle.std.specs.Prelude.{◌+◌, ◌-◌, ◌*◌, ◌&&◌, ◌++◌, ◌==◌, ℕ, Bool, true, false, not, List, [], ◌∷◌, Option, Some, None, if◌then◌else◌, nat_le, nat_lt, length, find, is_some, map, option_map, option_and_then, unwrap_or}
-use Rattle.std.specs.List.{list_all, list_any}
-use Rattle.std.specs.Option.{option_map_or}
-use Rattle.std.specs.Str.{all_ascii_digits, bytes_eq}
-use Rattle.rm_lang_words.specs.Options.{Given, Text, given_in}
-use Rattle.rm_lang_words.specs.declared.form.Entry.{Entry as EntryInCode}
-use Rattle.rm_lang_words.specs.declared.form.Kind.{Kind}
+use Rattle.std.specs.{List.{list_all, list_any}, Option.{option_map_or}, Str.{all_ascii_digits, bytes_eq}}
+use Rattle.rm_lang_words.specs.{Options.{Given, Text, given_in}, declared.form.{Entry.{Entry as EntryInCode}, Kind.{Kind}}}
 use Rattle.rm_lang_words.specs.declared.form.Kind.TheVariants.{Text as AnyText, Number, Flag}
 
 -- an option that may be given: its name, whether it has to be, and what its value is

@@ -1,19 +1,11 @@
 -- What the reader of options gives.
 use Rattle.std.specs.Prelude.{◌≡◌, ◌++◌, ◌∷◌, Bool, true, List, [], Option, Some, None, Result, Ok, Err, map, option_map}
 use Rattle.clap.specs.declared.parser.matches.ArgMatches.{ArgMatches}
-use Rattle.rm_lang_words.specs.Options.{Given, Text, given_behind, given_in}
-use Rattle.rm_lang_words.specs.Form.{Form, is_flag, obeys, value_of}
-use Rattle.rm_lang_words.specs.Clap.{one_word, value_at}
-use Rattle.rm_lang_words.specs.declared.faults.WordsFault.{WordsFault}
-use Rattle.rm_lang_words.specs.declared.faults.WordsFault.TheVariants.{Bad, NoMemory}
-use Rattle.rm_lang_words.specs.declared.words.Words.{Words}
-use Rattle.rm_lang_words.specs.declared.duplicate.DuplicateWords.{DuplicateWords}
-use Rattle.rm_lang_words.specs.declared.standby.StandbyWords.{StandbyWords}
-use Rattle.rm_lang_words.specs.declared.resync.ResyncWords.{ResyncWords}
-use Rattle.rm_lang_words.specs.Words.{Said}
-use Rattle.rm_lang_words.specs.Duplicate.{DuplicateSaid}
-use Rattle.rm_lang_words.specs.Standby.{StandbySaid}
-use Rattle.rm_lang_words.specs.Resync.{ResyncSaid}
+use Rattle.rm_lang_words.specs.{Options.{Given, Text, given_behind, given_in}, Form.{Form, is_flag, obeys, value_of}}
+use Rattle.rm_lang_words.specs.{Clap.{one_word, value_at}, Words.{Said}, Duplicate.{DuplicateSaid}, Standby.{StandbySaid}}
+use Rattle.rm_lang_words.specs.{Resync.{ResyncSaid}, declared.faults.WordsFault.{WordsFault, TheVariants.{Bad, NoMemory}}}
+use Rattle.rm_lang_words.specs.declared.{words.Words.{Words}, duplicate.DuplicateWords.{DuplicateWords}}
+use Rattle.rm_lang_words.specs.declared.{standby.StandbyWords.{StandbyWords}, resync.ResyncWords.{ResyncWords}}
 
 -- where it fails, the fault is of memory, or nothing was to be read
 abbrev pub Fails : {X : Type 0} → WordsFault → Option X → Type 0

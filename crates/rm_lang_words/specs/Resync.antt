@@ -1,8 +1,6 @@
 -- The words of `resync`, `--control FILE --catalog FILE`, and what they say.
 use Rattle.std.specs.Prelude.{true, List, [], ◌∷◌, Option, codes}
-use Rattle.rm_lang_words.specs.Options.{Given, Text}
-use Rattle.rm_lang_words.specs.Form.{Form, said_by, text_of}
-use Rattle.rm_lang_words.specs.declared.form.Kind.TheVariants.{Text as AnyText}
+use Rattle.rm_lang_words.specs.{Options.{Given, Text}, Form.{Form, said_by, text_of}, declared.form.Kind.TheVariants.{Text as AnyText}}
 
 -- a control file and a catalog
 abbrev pub resync_form : Form

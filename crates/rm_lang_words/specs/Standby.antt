@@ -1,9 +1,7 @@
 -- The words of `standby`, and what they say: `--store DIR --to DIR --catalog FILE (--make S | --roll N | --dump)`.
 use Rattle.std.specs.Prelude.{ℕ, Bool, true, false, List, [], ◌∷◌, Option, Some, None, codes, is_some, option_and_then, option_map}
-use Rattle.rm_lang_words.specs.Options.{Given, Text}
-use Rattle.rm_lang_words.specs.Form.{Form, number_of, said_by, text_of, value_of}
-use Rattle.rm_lang_words.specs.declared.form.Kind.TheVariants.{Text as AnyText, Number, Flag}
-use Rattle.rm_lang_words.specs.declared.standby.StandbyTask.{StandbyTask}
+use Rattle.rm_lang_words.specs.{Options.{Given, Text}, Form.{Form, number_of, said_by, text_of, value_of}}
+use Rattle.rm_lang_words.specs.declared.{form.Kind.TheVariants.{Text as AnyText, Number, Flag}, standby.StandbyTask.{StandbyTask}}
 use Rattle.rm_lang_words.specs.declared.standby.StandbyTask.TheVariants.{Make, Roll, Dump}
 
 -- two stores and a catalog; an SCN, to 2^64 - 1, the number of an increment, to 2^64 - 1, and a flag, where they are given

@@ -1,7 +1,6 @@
 -- The words of `run`, `--store DIR --catalog FILE [--channels N] [--drill N] [--database N] [--control FILE]`, and what they say.
 use Rattle.std.specs.Prelude.{ℕ, true, false, List, [], ◌∷◌, Option, codes}
-use Rattle.rm_lang_words.specs.Options.{Given, Text}
-use Rattle.rm_lang_words.specs.Form.{Form, number_of, said_by, text_of, value_of}
+use Rattle.rm_lang_words.specs.{Options.{Given, Text}, Form.{Form, number_of, said_by, text_of, value_of}}
 use Rattle.rm_lang_words.specs.declared.form.Kind.TheVariants.{Text as AnyText, Number}
 
 -- a store and a catalog, and where they are given 1 to 16 channels, a drill from 0 to 2^64 - 1, a database from 0 to 2^32 - 1

@@ -1,12 +1,8 @@
 //! The command line that `clap` reads.
-ghost use Rattle.std.specs.Prelude.{◌≡◌, ◌≢◌, [], map, IfOk, IfErr, true, false};
-ghost use Rattle.std.specs.String.{string_bytes};
-ghost use Rattle.clap.specs.Words.{app_of, kind_of, rule_of};
-ghost use Rattle.clap.specs.declared.error.kind.ErrorKind.TheVariants.{OutOfMemory};
-ghost use Rattle.rm_lang_words.specs.Options.{Text as Bytes};
-ghost use Rattle.rm_lang_words.specs.Clap.{app_of_form, faults, found, rule_of_entry, value_at};
-ghost use Rattle.rm_lang_words.specs.Form.{entry_of, form_of};
-ghost use Rattle.rm_lang_words.specs.declared.faults.WordsFault.TheVariants.{Bad};
+ghost use Rattle.std.specs.{Prelude.{◌≡◌, ◌≢◌, [], map, IfOk, IfErr, true, false}, String.{string_bytes}};
+ghost use Rattle.clap.specs.{Words.{app_of, kind_of, rule_of}, declared.error.kind.ErrorKind.TheVariants.{OutOfMemory}};
+ghost use Rattle.rm_lang_words.specs.{Options.{Text as Bytes}, Clap.{app_of_form, faults, found, rule_of_entry, value_at}};
+ghost use Rattle.rm_lang_words.specs.{Form.{entry_of, form_of}, declared.faults.WordsFault.TheVariants.{Bad}};
 
 use crate::faults::WordsFault;
 use crate::form::Entry;

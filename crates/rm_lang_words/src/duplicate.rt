@@ -1,7 +1,6 @@
 //! The words of `duplicate`, and what they say.
 ghost use Rattle.std.specs.Prelude.{◌≡◌, ◌≤◌, IfOk, IfSome};
-ghost use Rattle.rm_lang_words.specs.Duplicate.{duplicate_said};
-ghost use Rattle.rm_lang_words.specs.Reading.{Gives, duplicate_of};
+ghost use Rattle.rm_lang_words.specs.{Duplicate.{duplicate_said}, Reading.{Gives, duplicate_of}};
 
 use crate::faults::WordsFault;
 use crate::form::{Entry, Kind};

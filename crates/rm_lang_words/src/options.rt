@@ -1,10 +1,7 @@
 //! The options that words give, as words of the one form `--name=value`.
-ghost use Rattle.std.specs.Prelude.{◌≡◌, ◌++◌, ◌∷◌, [], true, false, None, IfOk, IfErr, OnOk, map, option_map};
-ghost use Rattle.std.specs.String.{string_bytes};
-ghost use Rattle.rm_lang_words.specs.Options.{is_value, behind_hyphen, behind_hyphens, given_in, split};
-ghost use Rattle.rm_lang_words.specs.Clap.{one_word};
-ghost use Rattle.rm_lang_words.specs.Form.{entry_of, form_of, is_flag, is_flag_named};
-ghost use Rattle.rm_lang_words.specs.Reading.{Gives, IsReadOn, IsRefused, words_behind};
+ghost use Rattle.std.specs.{Prelude.{◌≡◌, ◌++◌, ◌∷◌, [], true, false, None, IfOk, IfErr, OnOk, map, option_map}, String.{string_bytes}};
+ghost use Rattle.rm_lang_words.specs.{Options.{is_value, behind_hyphen, behind_hyphens, given_in, split}, Clap.{one_word}};
+ghost use Rattle.rm_lang_words.specs.{Form.{entry_of, form_of, is_flag, is_flag_named}, Reading.{Gives, IsReadOn, IsRefused, words_behind}};
 ghost use Rattle.rm_lang_words.specs.declared.faults.WordsFault.TheVariants.{Bad};
 
 use crate::faults::WordsFault;

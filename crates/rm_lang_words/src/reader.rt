@@ -1,12 +1,8 @@
 //! The reader of options, for every form.
 ghost use Rattle.std.specs.Prelude.{◌≡◌, List, map, option_map, option_and_then, is_some, unwrap_or, [], IfOk, IfErr, true, false};
-ghost use Rattle.std.specs.List.{list_all};
-ghost use Rattle.std.specs.String.{string_bytes};
-ghost use Rattle.rm_lang_words.specs.Options.{Text as Bytes};
-ghost use Rattle.rm_lang_words.specs.Clap.{value_at};
-ghost use Rattle.rm_lang_words.specs.Form.{accepts, entry_of, form_of, is_met_by, number_in};
-ghost use Rattle.rm_lang_words.specs.Reading.{AreOf, AreRead};
-ghost use Rattle.rm_lang_words.specs.declared.faults.WordsFault.TheVariants.{Bad};
+ghost use Rattle.std.specs.{List.{list_all}, String.{string_bytes}};
+ghost use Rattle.rm_lang_words.specs.{Options.{Text as Bytes}, Clap.{value_at}, Form.{accepts, entry_of, form_of, is_met_by, number_in}};
+ghost use Rattle.rm_lang_words.specs.{Reading.{AreOf, AreRead}, declared.faults.WordsFault.TheVariants.{Bad}};
 
 use crate::clap_command::find;
 use crate::faults::WordsFault;

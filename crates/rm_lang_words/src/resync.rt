@@ -1,6 +1,5 @@
 //! The words of `resync`, and what they say.
-ghost use Rattle.rm_lang_words.specs.Resync.{resync_said};
-ghost use Rattle.rm_lang_words.specs.Reading.{Gives, resync_of};
+ghost use Rattle.rm_lang_words.specs.{Resync.{resync_said}, Reading.{Gives, resync_of}};
 
 use crate::faults::WordsFault;
 use crate::form::{Entry, Kind};

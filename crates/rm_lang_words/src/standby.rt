@@ -1,7 +1,6 @@
 //! The words of `standby`, and what they say.
 ghost use Rattle.std.specs.Prelude.{◌≡◌};
-ghost use Rattle.rm_lang_words.specs.Standby.{standby_said, task_of};
-ghost use Rattle.rm_lang_words.specs.Reading.{Gives, standby_of};
+ghost use Rattle.rm_lang_words.specs.{Standby.{standby_said, task_of}, Reading.{Gives, standby_of}};
 
 use crate::faults::WordsFault;
 use crate::form::{Entry, Kind};

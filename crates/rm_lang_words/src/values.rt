@@ -1,6 +1,5 @@
 //! The values of options.
-ghost use Rattle.std.specs.Prelude.{◌≡◌, ◌≤◌, ◌&&◌, IfSome, nat_le, option_map};
-ghost use Rattle.std.specs.Str.{all_ascii_digits};
+ghost use Rattle.std.specs.{Prelude.{◌≡◌, ◌≤◌, ◌&&◌, IfSome, nat_le, option_map}, Str.{all_ascii_digits}};
 ghost use Rattle.rm_lang_words.specs.Form.{has_value, number_in};
 
 use crate::form::Kind;

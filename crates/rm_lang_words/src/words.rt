@@ -1,7 +1,6 @@
 //! The words of `run`, and what they say.
 ghost use Rattle.std.specs.Prelude.{◌≡◌, ◌≤◌, IfOk, IfSome};
-ghost use Rattle.rm_lang_words.specs.Words.{said};
-ghost use Rattle.rm_lang_words.specs.Reading.{Gives, said_of};
+ghost use Rattle.rm_lang_words.specs.{Words.{said}, Reading.{Gives, said_of}};
 
 use crate::faults::WordsFault;
 use crate::form::{Entry, Kind};

@@ -5,15 +5,11 @@ use mathlib.Core.Option.{Option as Slot, some, some-ne-none, some-injective}
 use native.Mathlib.Decide.{ℕ_discrete}
 use lib.ListN.{get_elem?}
 use Rattle.atomic_table.specs.Table.{State, opening, Final, Seen}
-use Rattle.rm_live.specs.declared.database.Database.{Database}
-use Rattle.std.specs.declared.snapshot.Snapshot.{Snapshot}
-use Rattle.rm_live.specs.declared.history.Event.{Event}
-use Rattle.rm_live.specs.declared.rule.View.{View}
-use Rattle.rm_live.specs.Parts.{IsSound, parts_of}
-use Rattle.rm_live.specs.History.{fold_of, times, Foreign}
+use Rattle.rm_live.specs.{Parts.{IsSound, parts_of}, History.{fold_of, times, Foreign}}
 use Rattle.rm_live.specs.Ruled.{big, start, upto, resting, once_below, one_if, holding, Knows, SlotIs, Below, Ruled}
-use Rattle.rm_live.proofs.Totals.{total_two, total_only, times_upto, length_upto, past_none, past_self, below_rest}
-use Rattle.rm_live.proofs.Steps.{off}
+use Rattle.rm_live.specs.declared.{database.Database.{Database}, history.Event.{Event}, rule.View.{View}}
+use Rattle.rm_live.proofs.{Totals.{total_two, total_only, times_upto, length_upto, past_none, past_self, below_rest}, Steps.{off}}
+use Rattle.std.specs.declared.snapshot.Snapshot.{Snapshot}
 
 pub begins : (k : Snapshot Database) (passes : ℕ) → passes < big → IsSound (parts_of k.value) → Ruled (opening (0 ∷ 0 ∷ []) (k.value ∷ []) (resting (Some k) passes (upto 0 passes) []))
 begins k passes small sound = record {

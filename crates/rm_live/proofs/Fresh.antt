@@ -1,10 +1,7 @@
 -- The first pass of a database that was just opened.
 use Rattle.std.proofs.Common.{◌≡◌, ◌∙◌, ℕ, [], ap, sym, subst, length}
 use Rattle.atomic_table.specs.Seated.{TableId}
-use Rattle.rm_live.specs.Parts.{Parts}
-use Rattle.rm_live.specs.Passes.{IsLater, IsOnly, Standing}
-use Rattle.rm_live.specs.Ruled.{upto}
-use Rattle.rm_live.proofs.Totals.{length_upto, times_upto}
+use Rattle.rm_live.{specs.{Parts.{Parts}, Passes.{IsLater, IsOnly, Standing}, Ruled.{upto}}, proofs.Totals.{length_upto, times_upto}}
 
 -- the first pass
 abbrev pub fresh : TableId → Parts → ℕ → Standing

@@ -2,9 +2,7 @@
 use Rattle.std.proofs.Common.{◌≡◌, ℕ, zero, suc, ◌+◌, ◌<◌, ◌≤◌, Bool, true, false, List, [], ◌∷◌, length, nat_lt, if◌then◌else◌, nat_eq, refl, ap, ◌∙◌, arith, ltb-true, eq-eqb, ne_eqb}
 use mathlib.Core.Logic.{dite}
 use native.Mathlib.Decide.{ℕ_discrete}
-use Rattle.rm_live.specs.History.{times}
-use Rattle.rm_live.specs.Passes.{Standing, IsOnly}
-use Rattle.rm_live.specs.Ruled.{AreShares, once_below, one_if, total, upto}
+use Rattle.rm_live.specs.{History.{times}, Passes.{Standing, IsOnly}, Ruled.{AreShares, once_below, one_if, total, upto}}
 
 one_at : ℕ → ℕ → ℕ
 one_at x n = if nat_eq n x then 1 else 0

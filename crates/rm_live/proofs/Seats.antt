@@ -3,14 +3,10 @@ use Rattle.std.proofs.Common.{take-append-drop, ◌≡◌, ◌≢◌, ℕ, ◌+�
 use mathlib.Core.Option.{Option as Slot, some, none}
 use lib.ListN.{get_elem?}
 use lib.Seq.{set-get_or}
-use Rattle.atomic_table.specs.Table.{step, keeps, Allows, Splits, Joins}
-use Rattle.atomic_table.proofs.Lists.{at_set, at_snoc, at_longer}
-use Rattle.rm_live.specs.declared.database.Database.{Database}
-use Rattle.rm_live.specs.declared.history.Event.{Event}
-use Rattle.rm_live.specs.declared.rule.View.{View}
-use Rattle.rm_live.specs.Parts.{Parts}
-use Rattle.rm_live.specs.History.{after, IsLegal, times, Foreign, Past}
+use Rattle.atomic_table.{specs.Table.{step, keeps, Allows, Splits, Joins}, proofs.Lists.{at_set, at_snoc, at_longer}}
+use Rattle.rm_live.specs.{Parts.{Parts}, History.{after, IsLegal, times, Foreign, Past}}
 use Rattle.rm_live.specs.Ruled.{total, one_if, waiting, holding, Knows, SlotIs, Below, Ruled, half, keeps_half, gives_half, longer, merged, spent_view, met, Met}
+use Rattle.rm_live.specs.declared.{database.Database.{Database}, history.Event.{Event}, rule.View.{View}}
 use Rattle.rm_live.proofs.Totals.{total_set, total_same, total_snoc, times_append, times_split, foreign_less, foreign_both, past_none, past_within}
 use Rattle.rm_live.proofs.Steps.{St, off, each_set, shares_of, slot_same, apart_set}
 

@@ -1,28 +1,17 @@
 -- A live database stays sound, and its threads stay there.
-use Rattle.std.proofs.Common.{Ok, Err, ◌≡◌, ◌≢◌, ◌<◌, ◌≤◌, ◌+◌, ◌-◌, ◌∙◌, ◌==◌, ℕ, List, [], ◌∷◌, Option, Some, None, Bool, true, false, true≢false, cond, refl, sym, subst, arith, length, All, slice_get, slice_set}
 use Rattle.std.specs.Option.{option_map_or}
-use Rattle.std.proofs.lemmas.Bool.{eq-eqb}
-use Rattle.std.proofs.lemmas.List.Elements.{All-push, All-set, All-weaker, All-get_or}
+use Rattle.std.proofs.Common.{Ok, Err, ◌≡◌, ◌≢◌, ◌<◌, ◌≤◌, ◌+◌, ◌-◌, ◌∙◌, ◌==◌, ℕ, List, [], ◌∷◌, Option, Some, None, Bool, true, false, true≢false, cond, refl, sym, subst, arith, length, All, slice_get, slice_set}
+use Rattle.std.proofs.lemmas.{Bool.{eq-eqb}, List.Elements.{All-push, All-set, All-weaker, All-get_or}}
 use Rattle.std.proofs.lemmas.Option.{get_or_from_slice_get, slice_get_within}
-use Rattle.rm_base.specs.Numbers.{last_scn}
-use Rattle.rm_base.specs.declared.block.Block.{Block}
-use Rattle.rm_base.specs.declared.block.Change.{Change}
-use Rattle.rm_base.specs.declared.block.Row.{Row}
+use Rattle.rm_base.specs.{Numbers.{last_scn}, declared.block.{Block.{Block}, Change.{Change}, Row.{Row}}}
 use Rattle.rm_blocks.specs.File.{File}
-use Rattle.rm_redo.specs.declared.online.LogRecord.{LogRecord}
-use Rattle.rm_redo.specs.declared.online.ThreadLog.{ThreadLog}
-use Rattle.rm_redo.specs.Logs.{Logs}
-use Rattle.rm_redo.specs.Online.{IsThread, IsLost, thread_records, record_of, with_change, with_record}
+use Rattle.rm_redo.specs.{Logs.{Logs}, Online.{IsThread, IsLost, thread_records, record_of, with_change, with_record}}
+use Rattle.rm_redo.specs.declared.online.{LogRecord.{LogRecord}, ThreadLog.{ThreadLog}}
 use Rattle.rm_redo.proofs.Logs.{IsThread-with_change, IsLost-with_change, inc-with_change}
-use Rattle.rm_live.specs.declared.history.Answer.{Answer}
-use Rattle.rm_live.specs.declared.history.Answer.TheVariants.{Found, Mended, Wrote}
-use Rattle.rm_live.specs.declared.history.Call.{Call}
-use Rattle.rm_live.specs.declared.history.Call.TheVariants.{Mend, Read, Write}
-use Rattle.rm_live.specs.declared.history.Event.{Event}
-use Rattle.rm_live.specs.declared.history.LiveFault.TheVariants.{Full, LastScn}
 use Rattle.rm_live.specs.Parts.{Parts, IsSound, refusal_by, refusal_of, row_at, with_put}
-use Rattle.rm_live.specs.History.{IsRight, IsLegal, after, fold_of, with_write}
-use Rattle.rm_live.proofs.Files.{All-with_put}
+use Rattle.rm_live.specs.{History.{IsRight, IsLegal, after, fold_of, with_write}, declared.history.Answer.{Answer}}
+use Rattle.rm_live.specs.declared.history.{Answer.TheVariants.{Found, Mended, Wrote}, Call.{Call, TheVariants.{Mend, Read, Write}}}
+use Rattle.rm_live.{specs.declared.history.{Event.{Event}, LiveFault.TheVariants.{Full, LastScn}}, proofs.Files.{All-with_put}}
 
 not-eq : (m n : ℕ) → (m == n) ≡ false → m ≢ n
 not-eq m n is same = true≢false (sym (eq-eqb m n same) ∙ is)

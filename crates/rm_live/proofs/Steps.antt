@@ -8,15 +8,10 @@ use Rattle.atomic_table.specs.Table.{State, step, keeps, takes, gives, stepped, 
 use Rattle.atomic_table.proofs.Lists.{at_set, set_again, one_turn, set_else}
 use Rattle.std.proofs.Math.Nat.{mod-add-mod}
 use lib.Seq.{set-get_or}
-use Rattle.rm_live.specs.declared.database.Database.{Database}
-use Rattle.rm_live.specs.declared.history.Answer.{Answer}
-use Rattle.rm_live.specs.declared.history.Event.{Event}
-use Rattle.rm_live.specs.declared.rule.View.{View}
-use Rattle.rm_live.specs.Parts.{IsSound, Parts, parts_of}
-use Rattle.rm_live.specs.History.{IsRight, after, IsLegal, fold_of, times, Past}
-use Rattle.rm_live.specs.declared.history.Call.{Call}
+use Rattle.rm_live.specs.{Parts.{IsSound, Parts, parts_of}, History.{IsRight, after, IsLegal, fold_of, times, Past}}
 use Rattle.rm_live.specs.Passes.{HasTurn, IsTurn, first_of, event_of}
 use Rattle.rm_live.specs.Ruled.{big, start, Looked, total, one_if, waiting, holding, once_below, Knows, SlotIs, Below, AreShares, Ruled, Sat, drew, took, ended, Drew, Ended}
+use Rattle.rm_live.specs.declared.{database.Database.{Database}, history.{Answer.{Answer}, Event.{Event}, Call.{Call}}, rule.View.{View}}
 use Rattle.rm_live.proofs.Sound.{after-sound}
 use Rattle.rm_live.proofs.Totals.{total_set, total_same, total_one, total_two, total_le, legal_snoc, fold_snoc, below_snoc, past_snoc, past_none, past_self, past_length}
 

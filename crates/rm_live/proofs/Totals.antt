@@ -2,9 +2,7 @@
 use Rattle.std.proofs.Common.{append-nil, ◌≡◌, ◌≢◌, ℕ, zero, suc, ◌+◌, ◌<◌, ◌≤◌, Bool, true, false, List, [], ◌∷◌, ◌++◌, length, set, nat_lt, refl, sym, ap, ◌∙◌, subst, arith, append_assoc, length-append, ne_eqb, eq-eqb, ltb-true, ltb-false, take, drop, take-append-drop}
 use mathlib.Core.Option.{some, some-ne-none, some-injective}
 use lib.ListN.{get_elem?}
-use Rattle.rm_live.specs.declared.history.Event.{Event}
-use Rattle.rm_live.specs.Parts.{Parts}
-use Rattle.rm_live.specs.History.{IsRight, after, IsLegal, fold_of, times, Foreign, Past}
+use Rattle.rm_live.specs.{Parts.{Parts}, History.{IsRight, after, IsLegal, fold_of, times, Foreign, Past}, declared.history.Event.{Event}}
 use mathlib.Core.Logic.{dite}
 use native.Mathlib.Decide.{ℕ_discrete}
 use Rattle.rm_live.specs.Ruled.{total, Below, upto, once_below, one_if}

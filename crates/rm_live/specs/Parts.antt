@@ -1,17 +1,11 @@
 -- What a live database is made of, and what a write finds there.
 use Rattle.std.specs.Prelude.{ℕ, ◌≡◌, ◌≢◌, ◌≤◌, ◌<◌, ◌==◌, if◌then◌else◌, Option, Some, None, List, [], ◌∷◌, All, AllPairs, length, slice_get}
-use Rattle.std.specs.List.{find}
-use Rattle.std.specs.Option.{option_map_or}
-use Rattle.rm_base.specs.Numbers.{last_scn}
-use Rattle.rm_base.specs.declared.block.Block.{Block}
-use Rattle.rm_base.specs.declared.block.Row.{Row}
+use Rattle.std.specs.{List.{find}, Option.{option_map_or}}
+use Rattle.rm_base.specs.{Numbers.{last_scn}, declared.block.{Block.{Block}, Row.{Row}}}
 use Rattle.rm_blocks.specs.File.{File, put}
-use Rattle.rm_redo.specs.Logs.{Logs}
-use Rattle.rm_redo.specs.Online.{thread_records}
+use Rattle.rm_redo.specs.{Logs.{Logs}, Online.{thread_records}}
 use Rattle.rm_track.specs.Bitmaps.{Tracked}
-use Rattle.rm_live.specs.declared.database.Database.{Database}
-use Rattle.rm_live.specs.declared.history.LiveFault.{LiveFault}
-use Rattle.rm_live.specs.declared.history.LiveFault.TheVariants.{NoBlock, Full, LastScn}
+use Rattle.rm_live.specs.declared.{database.Database.{Database}, history.LiveFault.{LiveFault, TheVariants.{NoBlock, Full, LastScn}}}
 
 -- its incarnation, the SCN that the next write takes, its datafiles, its online logs, and the bitmaps of its datafiles
 pub record Parts : Type 0 where

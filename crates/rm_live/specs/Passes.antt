@@ -1,15 +1,9 @@
 -- What a pass is seen as, and what a call makes of it.
 use Rattle.std.specs.Prelude.{◌≡◌, ℕ, ◌<◌, true, false, List, [], ◌∷◌, ◌++◌, length}
-use Rattle.atomic_table.specs.Seated.{TableId}
-use Rattle.atomic_table.specs.declared.shared.Seat.{Seat}
-use Rattle.rm_live.specs.declared.database.Database.{Database}
-use Rattle.rm_live.specs.declared.history.Answer.{Answer}
-use Rattle.rm_live.specs.declared.history.Call.{Call}
-use Rattle.rm_live.specs.declared.history.Event.{Event}
-use Rattle.rm_live.specs.declared.rule.View.{View}
-use Rattle.rm_live.specs.Parts.{Parts, IsSound, parts_of}
-use Rattle.rm_live.specs.History.{IsRight, after, fold_of, IsLegal, Past, Foreign, times}
-use Rattle.rm_live.specs.Ruled.{Sat, Below, AreShares, once_below, start}
+use Rattle.atomic_table.specs.{Seated.{TableId}, declared.shared.Seat.{Seat}}
+use Rattle.rm_live.specs.{Parts.{Parts, IsSound, parts_of}, History.{IsRight, after, fold_of, IsLegal, Past, Foreign, times}}
+use Rattle.rm_live.specs.{Ruled.{Sat, Below, AreShares, once_below, start}, declared.database.Database.{Database}}
+use Rattle.rm_live.specs.declared.{history.{Answer.{Answer}, Call.{Call}, Event.{Event}}, rule.View.{View}}
 
 -- the lock of which it is a pass, the database at the opening, how many numbers there are, its own
 -- numbers, and what it has seen

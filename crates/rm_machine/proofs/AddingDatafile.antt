@@ -1,15 +1,9 @@
 -- CREATE DATAFILE: there is room, and the new datafile fits.
 use Rattle.std.proofs.Common.{◌≡◌, ◌<◌, ◌≤◌, ◌+◌, inl, inr, ℕ, List, None, arith, length, sum_by, rules}
-use Rattle.rm_history.specs.declared.tree.Incarnation.{Incarnation}
-use Rattle.rm_history.specs.declared.world.Datafile.{Datafile}
-use Rattle.rm_history.specs.Tree.{IsThere, reset_of}
-use Rattle.rm_catalog_typed.specs.Ledger.{ledger_records}
-use Rattle.rm_catalog_typed.specs.Fitting.{FitsFile, HasRoomFor}
-use Rattle.rm_machine.specs.CreateDatafile.{datafile_refusal, new_datafile, with_datafile}
-use Rattle.rm_machine.specs.Marks.{marks_before, one_further}
-use Rattle.rm_machine.specs.Sound.{IsSound}
-use Rattle.rm_machine.specs.declared.state.State.{State}
-use Rattle.rm_machine.specs.State.{ledger, current_of, now_of}
+use Rattle.rm_history.specs.{Tree.{IsThere, reset_of}, declared.{tree.Incarnation.{Incarnation}, world.Datafile.{Datafile}}}
+use Rattle.rm_catalog_typed.specs.{Ledger.{ledger_records}, Fitting.{FitsFile, HasRoomFor}}
+use Rattle.rm_machine.specs.{CreateDatafile.{datafile_refusal, new_datafile, with_datafile}, Marks.{marks_before, one_further}}
+use Rattle.rm_machine.specs.{Sound.{IsSound}, State.{ledger, current_of, now_of}, declared.state.State.{State}}
 use Rattle.rm_machine.proofs.Further.{GoesOn, count-further, further, keeps-further, now-further, roomy-either}
 
 -- A CREATE DATAFILE that was not refused

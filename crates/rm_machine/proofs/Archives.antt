@@ -5,14 +5,9 @@ use Rattle.rm_base.proofs.Conditions.{unless}
 use Rattle.rm_catalog_typed.specs.Ledger.{ledger_records}
 use Rattle.rm_redo.specs.Online.{sequence_of}
 use Rattle.rm_machine.specs.Archive.{after_thread, after_threads, archiving_refusal, bytes_from, due_from, is_last_sequence}
-use Rattle.rm_machine.specs.Marks.{lacks_bytes, lacks_ids, lacks_room}
-use Rattle.rm_machine.specs.Sound.{IsSound}
-use Rattle.rm_machine.specs.declared.state.State.{State}
-use Rattle.rm_machine.specs.State.{ledger, online}
-use Rattle.rm_machine.specs.SwitchLogfile.{is_due, log_entry, with_archived}
-use Rattle.rm_machine.proofs.Switching.{CanArchive, due-parts, sound-after}
-use Rattle.rm_machine.proofs.Further.{roomy}
-use Rattle.rm_machine.proofs.NewObjects.{count-logged}
+use Rattle.rm_machine.specs.{Marks.{lacks_bytes, lacks_ids, lacks_room}, Sound.{IsSound}, State.{ledger, online}}
+use Rattle.rm_machine.specs.{SwitchLogfile.{is_due, log_entry, with_archived}, declared.state.State.{State}}
+use Rattle.rm_machine.proofs.{Switching.{CanArchive, due-parts, sound-after}, Further.{roomy}, NewObjects.{count-logged}}
 use Rattle.rm_machine.proofs.Threads.{thread-in}
 
 -- Room

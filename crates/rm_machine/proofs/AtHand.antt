@@ -2,11 +2,8 @@
 use Rattle.std.proofs.Common.{◌≡◌, ◌<◌, ◌≤◌, ◌+◌, inl, inr, ℕ, zero, suc, [], ◌∷◌, Bool, true, false, cond, refl, arith, Contains}
 use Rattle.std.proofs.lemmas.List.Elements.{Contains-append_cases}
 use Rattle.rm_base.proofs.Members.{none-in, first-or-rest}
-use Rattle.rm_redo.specs.declared.log_file.LogFile.{LogFile}
-use Rattle.rm_redo.specs.Online.{has_log}
-use Rattle.rm_machine.specs.Recovery.{online_logs}
-use Rattle.rm_machine.specs.declared.state.State.{State}
-use Rattle.rm_machine.specs.State.{online, is_lost, is_online}
+use Rattle.rm_redo.specs.{Online.{has_log}, declared.log_file.LogFile.{LogFile}}
+use Rattle.rm_machine.specs.{Recovery.{online_logs}, State.{online, is_lost, is_online}, declared.state.State.{State}}
 use Rattle.rm_machine.proofs.Threads.{online-parts}
 
 -- the log of a thread, which is there and not lost, among n threads from t on

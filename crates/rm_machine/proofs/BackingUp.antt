@@ -1,69 +1,37 @@
 -- BACKUP: what stands at the end of its events is sound, its objects can be recorded, and what was not read is no candidate.
-use Rattle.std.proofs.Common.{◌≡◌, ◌⊎◌, ◌<◌, ◌≤◌, ◌+◌, ◌-◌, ◌∙◌, ◌==◌, inl, inr, ℕ, List, [], ◌∷◌, Option, Some, None, Ok, Bool, true, false, true≢false, cond, is_none, refl, ap, sym, subst, arith, length, map, nat_le, nat_lt, sum_by, unwrap_or, All, AllPairs, Contains, IfSome, get_or, slice_get, slice_index_or}
 use Rattle.std.specs.Option.{option_and_then, option_map_or}
+use Rattle.std.proofs.Common.{◌≡◌, ◌⊎◌, ◌<◌, ◌≤◌, ◌+◌, ◌-◌, ◌∙◌, ◌==◌, inl, inr, ℕ, List, [], ◌∷◌, Option, Some, None, Ok, Bool, true, false, true≢false, cond, is_none, refl, ap, sym, subst, arith, length, map, nat_le, nat_lt, sum_by, unwrap_or, All, AllPairs, Contains, IfSome, get_or, slice_get, slice_index_or}
 use Rattle.std.proofs.lemmas.Bool.{and_parts, cases_Bool, leb-true, ltb-false, ltb-true}
 use Rattle.std.proofs.lemmas.List.{get_or_default, length-map, length-replicate}
-use Rattle.std.proofs.lemmas.List.Elements.{All-cons, All-head, All-nil, All-tail, All-weaker, Contains-get_or}
-use Rattle.std.proofs.lemmas.Option.{slice_get-get_or}
-use Rattle.rm_base.specs.declared.block.Row.{Row}
-use Rattle.rm_base.proofs.Members.{in-front, none-in}
-use Rattle.rm_base.proofs.Slots.{get-index}
+use Rattle.std.proofs.lemmas.{List.Elements.{All-cons, All-head, All-nil, All-tail, All-weaker, Contains-get_or}, Option.{slice_get-get_or}}
+use Rattle.rm_base.{specs.declared.block.Row.{Row}, proofs.{Members.{in-front, none-in}, Slots.{get-index}}}
 use Rattle.rm_blocks.specs.File.{File, standing}
-use Rattle.rm_catalog.specs.declared.record.BaseEntry.{BaseEntry}
-use Rattle.rm_catalog.specs.Objects.{IsTag}
-use Rattle.rm_channel.specs.Jobs.{AreRows, Span, deeds_of}
-use Rattle.rm_channel.specs.Made.{AreThese, deed}
-use Rattle.rm_history.specs.declared.world.Datafile.{Datafile}
-use Rattle.rm_history.specs.Tree.{owner}
-use Rattle.rm_history.specs.World.{blocks_of, exists, file_of}
+use Rattle.rm_catalog.specs.{Objects.{IsTag}, declared.record.BaseEntry.{BaseEntry}}
+use Rattle.rm_channel.specs.{Jobs.{AreRows, Span, deeds_of}, Made.{AreThese, deed}}
+use Rattle.rm_history.specs.{Tree.{owner}, World.{blocks_of, exists, file_of}, declared.world.Datafile.{Datafile}}
 use Rattle.rm_track.specs.Bitmaps.{Bitmap, Tracked, candidates_at, candidates_of, joined, oldest, tracked_at, unmarked}
-use Rattle.rm_track.specs.Bits.{IsMarked, blocks_from}
-use Rattle.rm_track.specs.Told.{starts_of}
-use Rattle.rm_track.proofs.Marks.{marked-below}
+use Rattle.rm_track.{specs.{Bits.{IsMarked, blocks_from}, Told.{starts_of}}, proofs.Marks.{marked-below}}
 use Rattle.rm_catalog_typed.specs.Ledger.{ledger_records}
-use Rattle.rm_live.specs.declared.history.Event.{Event}
-use Rattle.rm_live.specs.History.{IsLegal}
-use Rattle.rm_live.specs.Ruled.{upto}
-use Rattle.rm_live.proofs.Totals.{length_upto}
-use Rattle.rm_piece.specs.Level1s.{IsRead}
-use Rattle.rm_redo.specs.Logs.{Logs}
-use Rattle.rm_redo.specs.Online.{IsThread}
-use Rattle.rm_piece.specs.Valid.{IsBefore}
-use Rattle.rm_lang_grammar.specs.Grammar.{in_range}
-use Rattle.rm_lang_grammar.specs.Spelling.{maybe_valid}
-use Rattle.rm_lang_statement.specs.Agreed.{agrees}
-use Rattle.rm_lang_statement.specs.IsCommand.{is_backup}
-use Rattle.rm_lang_statement.specs.Named.{are_named}
-use Rattle.rm_lang_statement.specs.declared.command.BackupForm.{BackupForm}
+use Rattle.rm_live.{specs.{History.{IsLegal}, Ruled.{upto}, declared.history.Event.{Event}}, proofs.Totals.{length_upto}}
+use Rattle.rm_piece.specs.{Level1s.{IsRead}, Valid.{IsBefore}}
+use Rattle.rm_redo.specs.{Logs.{Logs}, Online.{IsThread}}
+use Rattle.rm_lang_grammar.specs.{Grammar.{in_range}, Spelling.{maybe_valid}}
+use Rattle.rm_lang_statement.specs.{Agreed.{agrees}, IsCommand.{is_backup}, Named.{are_named}, declared.command.BackupForm.{BackupForm}}
 use Rattle.rm_lang_statement.specs.declared.command.WriteForm.{WriteForm}
-use Rattle.rm_machine.specs.Backup.{AreJobs, objects_of, rows_in, taken}
-use Rattle.rm_machine.specs.Marks.{marks_before}
-use Rattle.rm_machine.specs.Sound.{IsPlaced, IsSound}
-use Rattle.rm_machine.specs.Tracked.{AreTracked, switch_all, with_tracker}
-use Rattle.rm_machine.specs.declared.job.Job.{Job}
-use Rattle.rm_machine.specs.declared.state.State.{State}
-use Rattle.rm_machine.specs.State.{current_of, ledger, now_of, placed, tree, world}
-use Rattle.rm_machine.proofs.Backups.{IsTaken}
-use Rattle.rm_machine.proofs.Parents.{BeginsWithin, begins-within}
-use Rattle.rm_machine.proofs.Places.{counted-open}
+use Rattle.rm_machine.specs.{Backup.{AreJobs, objects_of, rows_in, taken}, Marks.{marks_before}, Sound.{IsPlaced, IsSound}}
+use Rattle.rm_machine.specs.{Tracked.{AreTracked, switch_all, with_tracker}, State.{current_of, ledger, now_of, placed, tree, world}}
+use Rattle.rm_machine.specs.{Asked.{blocks_read, candidates_in, span_of, writers_of, writes_in}, Events.{opening}}
+use Rattle.rm_machine.specs.{MadeObjects.{CanRecord, IsRecordable, Packed, packed}, BackupOutcome.{at_end, begun, marked}}
+use Rattle.rm_machine.{specs.{BackupRefusal.{mark_count}, declared.{job.Job.{Job}, state.State.{State}}}, proofs.Backups.{IsTaken}}
+use Rattle.rm_machine.proofs.{Parents.{BeginsWithin, begins-within}, Places.{counted-open}}
 use Rattle.rm_machine.proofs.ReadBlocks.{AreKnown, all-marked, blocks-marked, blocks-rise, candidates-long, known-by, marked-block, marks_by, read-by}
-use Rattle.rm_machine.proofs.Tracked.{tracked-switch_all}
-use Rattle.rm_machine.specs.Asked.{blocks_read, candidates_in, span_of, writers_of, writes_in}
-use Rattle.rm_machine.specs.Events.{opening}
-use Rattle.rm_machine.specs.MadeObjects.{CanRecord, IsRecordable, Packed, packed}
-use Rattle.rm_machine.specs.BackupOutcome.{at_end, begun, marked}
-use Rattle.rm_machine.specs.BackupRefusal.{mark_count}
-use Rattle.rm_machine.proofs.BackupAccepted.{CanBeWritten, CanBackUp}
-use Rattle.rm_machine.proofs.Copies.{IsReady, each-recordable, packed-many, packed-same}
-use Rattle.rm_evidence.proofs.Extending.{unmapped-pairs}
-use Rattle.rm_machine.proofs.Groups.{mapped-sum}
-use Rattle.rm_machine.proofs.MembersRead.{creation-by}
+use Rattle.rm_machine.proofs.{Tracked.{tracked-switch_all}, BackupAccepted.{CanBeWritten, CanBackUp}}
+use Rattle.rm_machine.proofs.{Copies.{IsReady, each-recordable, packed-many, packed-same}, Groups.{mapped-sum}, MembersRead.{creation-by}}
 use Rattle.rm_machine.proofs.TakenFiles.{taken-blocks, taken-few, taken-rise}
 use Rattle.rm_machine.proofs.BackupMarks.{count-marked, marked-same, sound-marked, unmarked-mark, with_mark}
-use Rattle.rm_machine.proofs.PiecesRead.{AreAll, BeginsBelow, IsCheckpoint, blocks-by}
-use Rattle.rm_machine.proofs.Deeds.{AllOf, WereRead, are-asked, are-read}
-use Rattle.rm_machine.proofs.Walk.{AreAsked, CanGoOn, HasWalked, events-same, walk}
-use Rattle.rm_machine.proofs.Damaged.{damaged-same}
+use Rattle.rm_machine.proofs.{PiecesRead.{AreAll, BeginsBelow, IsCheckpoint, blocks-by}, Deeds.{AllOf, WereRead, are-asked, are-read}}
+use Rattle.rm_machine.proofs.{Walk.{AreAsked, CanGoOn, HasWalked, events-same, walk}, Damaged.{damaged-same}}
+use Rattle.rm_evidence.proofs.Extending.{unmapped-pairs}
 
 -- The datafiles of a BACKUP
 

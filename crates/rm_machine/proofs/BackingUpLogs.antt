@@ -4,25 +4,14 @@ use Rattle.std.proofs.lemmas.List.Elements.{All-contains, All-tail, All-weaker}
 use Rattle.rm_base.proofs.Sealing.{length-sealed}
 use Rattle.rm_catalog.specs.declared.record.LogEntry.{LogEntry}
 use Rattle.rm_history.specs.Tree.{IsThere, end_of, reset_of}
-use Rattle.rm_catalog_typed.specs.LedgerFacts.{IsLogEntry}
-use Rattle.rm_catalog_typed.specs.Ledger.{Ledger, ledger_records}
-use Rattle.rm_evidence.specs.Objects.{HasLogFields}
-use Rattle.rm_redo.specs.declared.log_file.LogFile.{LogFile}
-use Rattle.rm_redo.specs.LogFormat.{IsLogFile, body_of}
-use Rattle.rm_redo.proofs.LogBodies.{length-body}
-use Rattle.rm_redo.proofs.LogFitting.{fits as fits-log}
-use Rattle.rm_catalog_typed.specs.Changes.{with_new_log}
-use Rattle.rm_catalog_typed.specs.Fitting.{FitsNewLog}
+use Rattle.rm_catalog_typed.specs.{LedgerFacts.{IsLogEntry}, Ledger.{Ledger, ledger_records}, Changes.{with_new_log}, Fitting.{FitsNewLog}}
 use Rattle.rm_catalog_typed.proofs.Fitted.{new_log_fits}
-use Rattle.rm_machine.specs.BackupLogs.{copies_of, copies_refusal, copy_entry, with_copies}
-use Rattle.rm_machine.specs.Sound.{IsSound}
-use Rattle.rm_machine.specs.Upkeep.{with_catalog}
-use Rattle.rm_machine.specs.declared.state.State.{State}
-use Rattle.rm_machine.specs.State.{ledger, tree}
-use Rattle.rm_machine.proofs.Left.{HasRoom}
-use Rattle.rm_machine.proofs.Further.{roomy}
-use Rattle.rm_machine.proofs.Later.{sound-with}
-use Rattle.rm_machine.proofs.NewObjects.{count-logged}
+use Rattle.rm_evidence.specs.Objects.{HasLogFields}
+use Rattle.rm_redo.{specs.{LogFormat.{IsLogFile, body_of}, declared.log_file.LogFile.{LogFile}}, proofs.LogBodies.{length-body}}
+use Rattle.rm_redo.proofs.LogFitting.{fits as fits-log}
+use Rattle.rm_machine.specs.{BackupLogs.{copies_of, copies_refusal, copy_entry, with_copies}, Sound.{IsSound}, Upkeep.{with_catalog}}
+use Rattle.rm_machine.{specs.{State.{ledger, tree}, declared.state.State.{State}}, proofs.{Left.{HasRoom}, Further.{roomy}}}
+use Rattle.rm_machine.proofs.{Later.{sound-with}, NewObjects.{count-logged}}
 
 -- the log of a record can be recorded again
 pub record CanRecord (s : State) (a : LogFile) : Type 0 where

@@ -1,32 +1,20 @@
 -- A BACKUP that was not refused.
-use Rattle.std.proofs.Common.{◌≡◌, ◌<◌, ◌≤◌, ◌+◌, inl, inr, ℕ, zero, suc, List, [], ◌∷◌, Option, Some, None, true, false, cond, is_none, nat_le, nat_lt, refl, subst, arith, length, sum_by, All, rules}
 use Rattle.std.specs.Option.{option_map_or}
-use Rattle.std.proofs.lemmas.Bool.{cases_eq, leb-false, ltb-false, or_parts}
-use Rattle.std.proofs.lemmas.List.Elements.{All-cons, All-nil}
-use Rattle.rm_base.specs.Numbers.{last_scn}
-use Rattle.rm_base.specs.declared.refusal.Absent.{Absent}
-use Rattle.rm_base.specs.declared.refusal.Absent.TheVariants.{Thread, File as AbsentFile, Block}
-use Rattle.rm_base.specs.declared.refusal.Refusal.{Refusal}
-use Rattle.rm_base.specs.declared.refusal.Limit.TheVariants.{Bytes, LogRecords, ObjectIds, Records}
-use Rattle.rm_base.specs.declared.refusal.Refusal.TheVariants.{Rm05, Rm09, Rm11, Rm15}
-use Rattle.rm_base.proofs.Conditions.{not-none, only-where, unless}
+use Rattle.std.proofs.Common.{◌≡◌, ◌<◌, ◌≤◌, ◌+◌, inl, inr, ℕ, zero, suc, List, [], ◌∷◌, Option, Some, None, true, false, cond, is_none, nat_le, nat_lt, refl, subst, arith, length, sum_by, All, rules}
+use Rattle.std.proofs.lemmas.{Bool.{cases_eq, leb-false, ltb-false, or_parts}, List.Elements.{All-cons, All-nil}}
+use Rattle.rm_base.specs.{Numbers.{last_scn}, declared.refusal.Absent.{Absent, TheVariants.{Thread, File as AbsentFile, Block}}}
+use Rattle.rm_base.specs.declared.refusal.{Refusal.{Refusal}, Limit.TheVariants.{Bytes, LogRecords, ObjectIds, Records}}
+use Rattle.rm_base.{specs.declared.refusal.Refusal.TheVariants.{Rm05, Rm09, Rm11, Rm15}, proofs.Conditions.{not-none, only-where, unless}}
 use Rattle.rm_blocks.specs.File.{File}
-use Rattle.rm_history.specs.declared.world.Datafile.{Datafile}
-use Rattle.rm_history.specs.World.{exists, file_of}
+use Rattle.rm_history.specs.{World.{exists, file_of}, declared.world.Datafile.{Datafile}}
 use Rattle.rm_catalog_typed.specs.Ledger.{ledger_records}
 use Rattle.rm_redo.specs.Online.{IsThread, thread_records as log_records}
-use Rattle.rm_lang_statement.specs.declared.command.BackupForm.{BackupForm}
-use Rattle.rm_lang_statement.specs.declared.command.WriteForm.{WriteForm}
+use Rattle.rm_lang_statement.specs.declared.command.{BackupForm.{BackupForm}, WriteForm.{WriteForm}}
 use Rattle.rm_machine.specs.Backup.{absent, lost_taken, object_bytes, objects_of, taken as taken_by}
-use Rattle.rm_machine.specs.Marks.{lacks_bytes, lacks_ids, lacks_room}
-use Rattle.rm_machine.specs.Sound.{IsSound}
-use Rattle.rm_machine.specs.declared.state.State.{State}
-use Rattle.rm_machine.specs.State.{ledger, world, current_of, is_no_thread, now_of, on_path, placed}
-use Rattle.rm_machine.proofs.Backups.{IsTaken, taken-all}
-use Rattle.rm_machine.proofs.Further.{roomy}
-use Rattle.rm_machine.proofs.Tracked.{on-path}
-use Rattle.rm_machine.specs.Asked.{by_thread, writes_in}
+use Rattle.rm_machine.specs.{Marks.{lacks_bytes, lacks_ids, lacks_room}, Sound.{IsSound}}
+use Rattle.rm_machine.specs.{State.{ledger, world, current_of, is_no_thread, now_of, on_path, placed}, Asked.{by_thread, writes_in}}
 use Rattle.rm_machine.specs.BackupRefusal.{absent_in, absent_of, backup_refusal, damage_refusal, lacks_log, lacks_logs, lost_of, mark_count, room_refusal}
+use Rattle.rm_machine.{specs.declared.state.State.{State}, proofs.{Backups.{IsTaken, taken-all}, Further.{roomy}, Tracked.{on-path}}}
 use Rattle.rm_machine.proofs.Threads.{thread-of}
 
 -- a write finds its thread, its block, and its datafile in place

@@ -1,25 +1,12 @@
 -- The mark before the writes keeps the database as it is.
 use Rattle.std.proofs.Common.{◌≡◌, ◌≤◌, ◌+◌, ◌∙◌, ◌++◌, inl, nat_lt, ℕ, List, [], ◌∷◌, Bool, true, false, cond, is_none, refl, ap, sym, subst, arith, length, length-append}
-use Rattle.std.proofs.lemmas.Bool.{le-ltb}
-use Rattle.std.proofs.lemmas.List.{append-nil}
-use Rattle.std.proofs.lemmas.List.Elements.{All-weaker}
-use Rattle.rm_base.specs.Store.{Held}
-use Rattle.rm_base.specs.declared.block.Change.{Change}
-use Rattle.rm_base.specs.declared.block.Mark.{Mark}
-use Rattle.rm_catalog_typed.specs.LedgerFacts.{IsMark}
-use Rattle.rm_catalog_typed.specs.Ledger.{ledger_records}
-use Rattle.rm_catalog_typed.specs.Facts.{IsTypedCatalog}
-use Rattle.rm_catalog_typed.proofs.Fitted.{many, mark_fits}
+use Rattle.std.proofs.lemmas.{Bool.{le-ltb}, List.{append-nil, Elements.{All-weaker}}}
+use Rattle.rm_base.specs.{Store.{Held}, declared.block.{Change.{Change}, Mark.{Mark}}}
+use Rattle.rm_catalog_typed.{specs.{LedgerFacts.{IsMark}, Ledger.{ledger_records}, Facts.{IsTypedCatalog}}, proofs.Fitted.{many, mark_fits}}
 use Rattle.rm_lang_statement.specs.declared.command.BackupForm.{BackupForm}
-use Rattle.rm_machine.specs.Effect.{Made}
-use Rattle.rm_machine.specs.Machine.{IsBorneOut}
-use Rattle.rm_machine.specs.Marks.{last_marked, mark_now, marks_before, with_marks}
-use Rattle.rm_machine.specs.Sound.{IsSound}
-use Rattle.rm_machine.specs.declared.state.State.{State}
-use Rattle.rm_machine.specs.State.{current_of, ledger}
+use Rattle.rm_machine.specs.{Effect.{Made}, Machine.{IsBorneOut}, Marks.{last_marked, mark_now, marks_before, with_marks}, Sound.{IsSound}}
+use Rattle.rm_machine.specs.{State.{current_of, ledger}, BackupOutcome.{marked}, BackupRefusal.{mark_count}, declared.state.State.{State}}
 use Rattle.rm_machine.proofs.Later.{borne-same, sound-with}
-use Rattle.rm_machine.specs.BackupOutcome.{marked}
-use Rattle.rm_machine.specs.BackupRefusal.{mark_count}
 
 abbrev pub with_mark : State → State
 with_mark s = record s { catalog = with_marks s.catalog (marks_before s) }

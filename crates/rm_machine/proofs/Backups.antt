@@ -1,15 +1,12 @@
 -- The datafiles that a backup takes.
 use Rattle.std.proofs.Common.{◌≡◌, ◌<◌, ◌+◌, ◌-◌, ℕ, suc, List, [], ◌∷◌, Some, None, Bool, true, false, cond, refl, subst, arith, All, find, is_none, slice_get, slice_index_or}
-use Rattle.std.proofs.lemmas.Bool.{and_parts}
-use Rattle.std.proofs.lemmas.List.Elements.{All-nil, All-cons}
+use Rattle.std.proofs.lemmas.{Bool.{and_parts}, List.Elements.{All-nil, All-cons}}
 use Rattle.rm_base.proofs.Conditions.{not-none, unless}
 use Rattle.rm_blocks.specs.File.{File}
 use Rattle.rm_lang_statement.specs.declared.command.BackupForm.{BackupForm}
-use Rattle.rm_history.specs.declared.world.Datafile.{Datafile}
-use Rattle.rm_history.specs.World.{exists}
-use Rattle.rm_machine.specs.Backup.{asks_for, is_taken, lost_taken, taken, taken_from}
+use Rattle.rm_history.specs.{World.{exists}, declared.world.Datafile.{Datafile}}
+use Rattle.rm_machine.specs.{Backup.{asks_for, is_taken, lost_taken, taken, taken_from}, State.{ledger, world, current_of, now_of, placed}}
 use Rattle.rm_machine.specs.declared.state.State.{State}
-use Rattle.rm_machine.specs.State.{ledger, world, current_of, now_of, placed}
 
 -- the datafile of this number is there, and on the current path
 record IsHere (s : State) (f : ℕ) : Type 0 where

@@ -1,16 +1,10 @@
 -- OPEN RESETLOGS: what was found before it stays so while logs are archived.
-use Rattle.std.proofs.Common.{◌≡◌, ◌<◌, ◌∙◌, ℕ, Option, Some, None, false, refl, sym, subst, arith, length}
-use Rattle.std.specs.Option.{option_map_or}
+use Rattle.std.{specs.Option.{option_map_or}, proofs.Common.{◌≡◌, ◌<◌, ◌∙◌, ℕ, Option, Some, None, false, refl, sym, subst, arith, length}}
 use Rattle.std.proofs.lemmas.Bool.{leb-false}
-use Rattle.rm_base.specs.declared.refusal.Refusal.{Refusal}
-use Rattle.rm_base.specs.declared.refusal.Refusal.TheVariants.{Rm04, Rm10, Rm11}
-use Rattle.rm_base.specs.declared.refusal.Limit.TheVariants.{Incarnations}
+use Rattle.rm_base.specs.declared.refusal.{Refusal.{Refusal, TheVariants.{Rm04, Rm10, Rm11}}, Limit.TheVariants.{Incarnations}}
 use Rattle.rm_base.proofs.Conditions.{unless}
-use Rattle.rm_machine.specs.Archive.{after_all, archiving_refusal}
-use Rattle.rm_machine.specs.OpenResetlogs.{branch_refusal, resetlogs_refusal}
-use Rattle.rm_machine.specs.Sound.{IsSound}
-use Rattle.rm_machine.specs.declared.state.State.{State}
-use Rattle.rm_machine.proofs.Archives.{AfterAll, HasRoom, room-accepted, threads-sound}
+use Rattle.rm_machine.specs.{Archive.{after_all, archiving_refusal}, OpenResetlogs.{branch_refusal, resetlogs_refusal}, Sound.{IsSound}}
+use Rattle.rm_machine.{specs.declared.state.State.{State}, proofs.Archives.{AfterAll, HasRoom, room-accepted, threads-sound}}
 use Rattle.rm_machine.proofs.BranchesSound.{CanBranchAt}
 
 -- Why it was not refused

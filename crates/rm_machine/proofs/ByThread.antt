@@ -1,14 +1,11 @@
 -- The lists of the threads' writes, and the lines of their SCNs, one after another.
-use Rattle.std.proofs.Common.{◌≡◌, ◌<◌, ◌≤◌, ◌+◌, ◌∙◌, ◌++◌, ℕ, zero, suc, List, [], ◌∷◌, Vec, refl, ap, sym, arith, append_assoc, drop-cons, drop, get_or, length, map}
 use Rattle.std.specs.Global.{Global}
+use Rattle.std.proofs.Common.{◌≡◌, ◌<◌, ◌≤◌, ◌+◌, ◌∙◌, ◌++◌, ℕ, zero, suc, List, [], ◌∷◌, Vec, refl, ap, sym, arith, append_assoc, drop-cons, drop, get_or, length, map}
 use Rattle.std.proofs.lemmas.List.{get_or-map, length-map, map_push}
-use Rattle.rm_channel.specs.Jobs.{lists}
-use Rattle.rm_channel.specs.declared.jobs.WriteJob.{WriteJob}
+use Rattle.rm_channel.specs.{Jobs.{lists}, declared.jobs.WriteJob.{WriteJob}}
 use Rattle.rm_lang_statement.specs.declared.command.WriteForm.{WriteForm}
-use Rattle.rm_report.specs.declared.line.Line.{Line}
-use Rattle.rm_report.specs.declared.line.Line.TheVariants.{ThreadScn}
-use Rattle.rm_machine.specs.Asked.{by_thread, lists_from}
-use Rattle.rm_machine.specs.BackupOutcome.{write_lines}
+use Rattle.rm_report.specs.declared.line.Line.{Line, TheVariants.{ThreadScn}}
+use Rattle.rm_machine.specs.{Asked.{by_thread, lists_from}, BackupOutcome.{write_lines}}
 
 lists-last : (t n : ℕ) (ws : List WriteForm) → lists_from t (suc n) ws ≡ lists_from t n ws ++ by_thread (t + n) ws ∷ []
 lists-last t zero ws = let same : t ≡ t + 0 = omega arith in ap (λ k. by_thread k ws ∷ []) same

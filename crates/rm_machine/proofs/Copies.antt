@@ -2,36 +2,18 @@
 use Rattle.std.proofs.Common.{◌≡◌, ◌<◌, ◌≤◌, ◌∙◌, ℕ, suc, List, [], ◌∷◌, Option, Some, None, IfSome, refl, ap, sym, arith, drop, length, length-drop, length-take, map, sum_by, take, All, AllPairs, Contains, slice_get, slice_index_or}
 use Rattle.std.proofs.lemmas.List.{length-map}
 use Rattle.std.proofs.lemmas.List.Elements.{All-cons, All-contains, All-drop, All-head, All-map, All-nil, All-tail, All-take, All-weaker}
-use Rattle.std.proofs.lemmas.List.Kept.{AllPairs-cons}
-use Rattle.std.proofs.lemmas.List.Sums.{sum_by-cons, sum_by-take-drop, sum_by-take-le}
-use Rattle.std.proofs.lemmas.Option.{slice_get-get_or}
-use Rattle.rm_base.specs.declared.block.Change.{Change}
-use Rattle.rm_base.specs.declared.block.Row.{Row}
-use Rattle.rm_catalog.specs.Objects.{IsTag}
-use Rattle.rm_catalog.specs.SetRules.{IsBeforePart}
-use Rattle.rm_catalog.specs.declared.record.SetEntry.{SetEntry}
-use Rattle.rm_history.specs.Agrees.{IsRow}
-use Rattle.rm_history.specs.History.{IsHistory}
-use Rattle.rm_history.specs.World.{blocks_of}
-use Rattle.rm_catalog_typed.specs.Ledger.{Ledger}
-use Rattle.rm_catalog_typed.specs.LedgerFacts.{IsPieceEntry, IsSetEntry, IsSetPart}
-use Rattle.rm_piece.specs.declared.set.Set.{Set}
-use Rattle.rm_piece.specs.declared.set.SetFile.{SetFile}
-use Rattle.rm_piece.specs.Sets.{IsBeforeMember, IsMember, IsSet}
-use Rattle.rm_piece.specs.Valid.{IsPiece}
+use Rattle.std.proofs.lemmas.{List.{Kept.{AllPairs-cons}, Sums.{sum_by-cons, sum_by-take-drop, sum_by-take-le}}, Option.{slice_get-get_or}}
+use Rattle.rm_base.specs.declared.block.{Change.{Change}, Row.{Row}}
+use Rattle.rm_catalog.specs.{Objects.{IsTag}, SetRules.{IsBeforePart}, declared.record.SetEntry.{SetEntry}}
+use Rattle.rm_history.specs.{Agrees.{IsRow}, History.{IsHistory}, World.{blocks_of}}
+use Rattle.rm_catalog_typed.specs.{Ledger.{Ledger}, LedgerFacts.{IsPieceEntry, IsSetEntry, IsSetPart}, Worlds.{world_of}}
+use Rattle.rm_piece.specs.{Sets.{IsBeforeMember, IsMember, IsSet}, Valid.{IsPiece}, declared.set.{Set.{Set}, SetFile.{SetFile}}}
 use Rattle.rm_piece.proofs.SetFitting.{length-set_most}
 use Rattle.rm_lang_statement.specs.declared.command.BackupForm.{BackupForm}
 use Rattle.rm_machine.specs.MadeObjects.{IsRecordable, Packed, alone, in_set, packed, packed_by}
-use Rattle.rm_machine.specs.MadePieces.{Copied, copied, entry_for, piece_by}
-use Rattle.rm_machine.specs.MadeSets.{InSet, in_sets, member_by, set_entry_for, set_of}
-use Rattle.rm_machine.specs.Backup.{cut, grouped, is_copy, part_of}
-use Rattle.rm_machine.specs.Effect.{a_piece}
-use Rattle.rm_machine.specs.Machine.{IsTrueArtefact}
-use Rattle.rm_machine.specs.Sound.{IsSound}
-use Rattle.rm_machine.specs.declared.job.Job.{Job}
-use Rattle.rm_machine.specs.declared.state.State.{State}
-use Rattle.rm_machine.specs.State.{current_of, ledger, tree, world}
-use Rattle.rm_catalog_typed.specs.Worlds.{world_of}
+use Rattle.rm_machine.specs.{MadePieces.{Copied, copied, entry_for, piece_by}, MadeSets.{InSet, in_sets, member_by, set_entry_for, set_of}}
+use Rattle.rm_machine.specs.{Backup.{cut, grouped, is_copy, part_of}, Effect.{a_piece}, Machine.{IsTrueArtefact}, Sound.{IsSound}}
+use Rattle.rm_machine.specs.{State.{current_of, ledger, tree, world}, declared.{job.Job.{Job}, state.State.{State}}}
 use Rattle.rm_machine.proofs.Groups.{cut-each, cut-long, mapped-pairs, mapped-sum, pairs-drop, pairs-take}
 use Rattle.rm_machine.proofs.MembersRead.{entry_with, member-is, member-true, part-is, set_with}
 use Rattle.rm_machine.proofs.PiecesRead.{AreAll, AreOthers, AreRead, BeginsBelow, IsCheckpoint, entry-is, piece-true, piece-valid}

@@ -1,13 +1,9 @@
 -- Loops over damaged blocks, and over what is in place.
 use Rattle.std.proofs.Common.{◌≡◌, ◌<◌, ◌+◌, ◌==◌, ◌&&◌, ◌∙◌, ◌++◌, ℕ, suc, Bool, true, false, cond, List, [], ◌∷◌, Option, None, refl, ap, sym, arith, append_assoc, drop, drop-cons, drop-set-lt, eqb-true, get_or, insert, length, length-append, slice_set, take}
-use Rattle.std.proofs.lemmas.Bool.{and_parts, eq-eqb}
-use Rattle.std.proofs.lemmas.List.{take-append-drop, take_more, take_more_set}
-use Rattle.std.proofs.lemmas.List.Elements.{Contains-get_or}
-use Rattle.rm_base.proofs.Lists.{any_none}
-use Rattle.rm_base.specs.declared.block.BlockId.{BlockId}
+use Rattle.std.proofs.lemmas.{Bool.{and_parts, eq-eqb}, List.{take-append-drop, take_more, take_more_set, Elements.{Contains-get_or}}}
+use Rattle.rm_base.{specs.declared.block.BlockId.{BlockId}, proofs.Lists.{any_none}}
 use Rattle.rm_blocks.specs.File.{File}
-use Rattle.rm_machine.specs.Damage.{has_block, has_file, is_before, undamaged, with_block}
-use Rattle.rm_machine.proofs.Undamaged.{undamaged-many}
+use Rattle.rm_machine.{specs.Damage.{has_block, has_file, is_before, undamaged, with_block}, proofs.Undamaged.{undamaged-many}}
 
 -- the items from place k on
 items-at : {X : Type 0} (xs : List X) (k : ℕ) (d : X) → k < length xs → drop k xs ≡ get_or xs k d ∷ drop (k + 1) xs

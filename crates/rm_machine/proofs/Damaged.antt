@@ -1,19 +1,14 @@
 -- The damaged blocks of a state: which changes of it, and of their list, leave them as they should be.
-use Rattle.std.proofs.Common.{◌≡◌, ◌≢◌, ◌<◌, ◌≤◌, ◌-◌, ◌==◌, ◌&&◌, ◌∙◌, ◌⊎◌, inl, inr, nat_lt, ℕ, zero, suc, Bool, true, false, cond, List, [], ◌∷◌, Option, Some, None, IsSome, refl, ap, sym, subst, arith, eqb-true, filter, length, length-set, ltb-true, slice_index_or, slice_set, All}
 use Rattle.std.specs.Option.{option_map}
-use Rattle.std.proofs.lemmas.Bool.{and_parts, cases_eq, eq-eqb, or_cases, or_parts}
-use Rattle.std.proofs.lemmas.Bool.Decides.{nat_tests}
+use Rattle.std.proofs.Common.{◌≡◌, ◌≢◌, ◌<◌, ◌≤◌, ◌-◌, ◌==◌, ◌&&◌, ◌∙◌, ◌⊎◌, inl, inr, nat_lt, ℕ, zero, suc, Bool, true, false, cond, List, [], ◌∷◌, Option, Some, None, IsSome, refl, ap, sym, subst, arith, eqb-true, filter, length, length-set, ltb-true, slice_index_or, slice_set, All}
+use Rattle.std.proofs.lemmas.Bool.{and_parts, cases_eq, eq-eqb, or_cases, or_parts, Decides.{nat_tests}}
 use Rattle.std.proofs.lemmas.List.Elements.{All-cons, All-filter, All-head, All-nil, All-tail, All-weaker}
 use Rattle.std.proofs.lemmas.List.Kept.{AllPairs-cons, AllPairs-filter}
-use Rattle.rm_base.specs.declared.block.BlockId.{BlockId}
-use Rattle.rm_base.specs.declared.block.Row.{Row}
+use Rattle.rm_base.specs.declared.block.{BlockId.{BlockId}, Row.{Row}}
 use Rattle.rm_blocks.specs.File.{File, put}
-use Rattle.rm_catalog_typed.specs.Facts.{IsTypedCatalog}
-use Rattle.rm_catalog_typed.proofs.Trees.{Keeps}
-use Rattle.rm_machine.specs.Damage.{AreDamaged, AscendByBlock, IsInPlace, is_before, with_block}
-use Rattle.rm_machine.specs.declared.state.State.{State}
-use Rattle.rm_machine.specs.Events.{with_placed_row}
-use Rattle.rm_machine.specs.State.{current_of, ledger, on_path, placed, tree}
+use Rattle.rm_catalog_typed.{specs.Facts.{IsTypedCatalog}, proofs.Trees.{Keeps}}
+use Rattle.rm_machine.specs.{Damage.{AreDamaged, AscendByBlock, IsInPlace, is_before, with_block}, Events.{with_placed_row}}
+use Rattle.rm_machine.specs.{State.{current_of, ledger, on_path, placed, tree}, declared.state.State.{State}}
 use Rattle.rm_machine.proofs.Tracked.{on_path-stays, on_tree_of}
 
 -- Another state with the same list

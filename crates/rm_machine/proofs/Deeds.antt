@@ -1,27 +1,18 @@
 -- What the list of all answers says of the events: each is a read, or a write that was asked for; and what the reads found.
-use Rattle.std.proofs.Common.{◌≡◌, ◌≤◌, ◌∙◌, ◌++◌, ◌==◌, ◌&&◌, inl, inr, ℕ, zero, suc, List, [], ◌∷◌, Some, None, Ok, Bool, true, false, refl, ap, subst, arith, length, map, filter, Contains, get_or, slice_get}
 use Rattle.std.specs.Str.{bytes_eq}
+use Rattle.std.proofs.Common.{◌≡◌, ◌≤◌, ◌∙◌, ◌++◌, ◌==◌, ◌&&◌, inl, inr, ℕ, zero, suc, List, [], ◌∷◌, Some, None, Ok, Bool, true, false, refl, ap, subst, arith, length, map, filter, Contains, get_or, slice_get}
 use Rattle.std.proofs.lemmas.Bool.{and_from, and_parts, cases_Bool, eq-eqb, eqb-true}
 use Rattle.std.proofs.lemmas.List.Elements.{Contains-append_cases, Contains-append_left, Contains-append_right}
 use Rattle.std.proofs.lemmas.Slice.Eq.{bytes_eq-Decides}
-use Rattle.rm_base.specs.declared.block.Row.{Row}
-use Rattle.rm_base.proofs.Lists.{filter_from, filter_to, map_from}
+use Rattle.rm_base.{specs.declared.block.Row.{Row}, proofs.Lists.{filter_from, filter_to, map_from}}
 use Rattle.rm_base.proofs.Members.{behind, first-or-rest, in-front, none-in}
-use Rattle.rm_channel.specs.Jobs.{AreRows, Deed, Span, deeds_of, found, found_of, wrote, wrote_of}
-use Rattle.rm_channel.specs.Made.{AreThese, deed, did_by}
+use Rattle.rm_channel.specs.{Jobs.{AreRows, Deed, Span, deeds_of, found, found_of, wrote, wrote_of}, Made.{AreThese, deed, did_by}}
 use Rattle.rm_channel.specs.declared.jobs.WriteJob.{WriteJob}
-use Rattle.rm_live.specs.declared.history.Answer.{Answer}
-use Rattle.rm_live.specs.declared.history.Answer.TheVariants.{Found, Mended, Wrote}
-use Rattle.rm_live.specs.declared.history.Call.{Call}
-use Rattle.rm_live.specs.declared.history.Call.TheVariants.{Mend, Read, Write}
-use Rattle.rm_live.specs.declared.history.Event.{Event}
-use Rattle.rm_live.specs.Ruled.{one_if, total}
+use Rattle.rm_live.specs.{Ruled.{one_if, total}, declared.history.{Answer.{Answer, TheVariants.{Found, Mended, Wrote}}, Call.{Call}}}
+use Rattle.rm_live.specs.declared.history.{Call.TheVariants.{Mend, Read, Write}, Event.{Event}}
 use Rattle.rm_lang_statement.specs.declared.command.WriteForm.{WriteForm}
-use Rattle.rm_machine.specs.declared.job.Job.{Job}
-use Rattle.rm_machine.specs.declared.state.State.{State}
-use Rattle.rm_machine.specs.Asked.{blocks_read, by_thread, lists_from, span_of, write_job}
-use Rattle.rm_machine.specs.Events.{write_form}
-use Rattle.rm_machine.proofs.Walk.{AreAsked, IsAsked, reading}
+use Rattle.rm_machine.specs.{Asked.{blocks_read, by_thread, lists_from, span_of, write_job}, Events.{write_form}, declared.job.Job.{Job}}
+use Rattle.rm_machine.{specs.declared.state.State.{State}, proofs.Walk.{AreAsked, IsAsked, reading}}
 
 -- Writes
 

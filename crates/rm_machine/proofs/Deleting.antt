@@ -1,6 +1,5 @@
 -- A record goes, and those of other ids are left.
-use Rattle.std.proofs.Common.{◌≢◌, nat_lt, inl, inr, ℕ, List, arith, Contains}
-use Rattle.std.proofs.lemmas.Bool.{cases_lt, lt-ltb}
+use Rattle.std.proofs.{Common.{◌≢◌, nat_lt, inl, inr, ℕ, List, arith, Contains}, lemmas.Bool.{cases_lt, lt-ltb}}
 use Rattle.std.proofs.lemmas.List.Elements.{Contains-append_left, Contains-append_right}
 use Rattle.rm_base.proofs.Lists.{filter_to}
 use Rattle.rm_catalog_typed.specs.Changes.{higher, lower, without_one}

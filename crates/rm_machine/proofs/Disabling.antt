@@ -1,29 +1,18 @@
 -- DISABLE THREAD: its log is archived if it is not empty, the switch fits, and the database stays sound.
-use Rattle.std.proofs.Common.{◌≡◌, ◌<◌, ◌≤◌, ◌+◌, ◌∙◌, ◌==◌, ◌&&◌, not, nat_le, ℕ, [], ◌∷◌, None, Bool, true, false, cond, refl, ap, subst, arith, length}
 use Rattle.std.specs.List.{list_any}
+use Rattle.std.proofs.Common.{◌≡◌, ◌<◌, ◌≤◌, ◌+◌, ◌∙◌, ◌==◌, ◌&&◌, not, nat_le, ℕ, [], ◌∷◌, None, Bool, true, false, cond, refl, ap, subst, arith, length}
 use Rattle.std.proofs.lemmas.Bool.{leb-false, ltb-false}
-use Rattle.rm_base.specs.Numbers.{last_scn}
-use Rattle.rm_base.proofs.Conditions.{only-where, unless}
-use Rattle.rm_catalog_typed.specs.Changes.{with_switch}
-use Rattle.rm_catalog_typed.specs.Fitting.{FitsSwitch}
-use Rattle.rm_catalog_typed.specs.Ledger.{ledger_records}
-use Rattle.rm_redo.specs.Online.{IsThread, has_log, sequence_of, with_disabled}
-use Rattle.rm_redo.proofs.Logs.{around-switched}
+use Rattle.rm_base.{specs.Numbers.{last_scn}, proofs.Conditions.{only-where, unless}}
+use Rattle.rm_catalog_typed.specs.{Changes.{with_switch}, Fitting.{FitsSwitch}, Ledger.{ledger_records}}
+use Rattle.rm_redo.{specs.Online.{IsThread, has_log, sequence_of, with_disabled}, proofs.Logs.{around-switched}}
 use Rattle.rm_machine.specs.Archive.{after_thread}
 use Rattle.rm_machine.specs.DisableThread.{disable_refusal, has_other, lacks_sequence, logs_due, switch_off, with_thread_off}
-use Rattle.rm_machine.specs.EnableThread.{is_outside}
-use Rattle.rm_machine.specs.Marks.{lacks_bytes, lacks_ids, lacks_room, marks_before, one_further}
-use Rattle.rm_machine.specs.Sound.{IsSound}
-use Rattle.rm_machine.specs.declared.state.State.{State}
-use Rattle.rm_machine.specs.State.{current_of, ledger, now_of, online, redo_end}
-use Rattle.rm_machine.specs.SwitchLogfile.{is_due, log_bytes, log_entry, with_archived}
-use Rattle.rm_machine.proofs.Archives.{room-one, thread-either}
-use Rattle.rm_machine.proofs.Further.{roomy}
-use Rattle.rm_machine.proofs.NewObjects.{count-logged}
-use Rattle.rm_machine.proofs.Switching.{CanArchive, due-parts, sound-after}
-use Rattle.rm_machine.proofs.Threads.{disabled-switched, number-within, thread-in}
-use Rattle.rm_machine.proofs.ThreadSwitches.{CanSwitch, sound-switched, switch-fits}
-use Rattle.rm_machine.proofs.ThreadSwitches as switching
+use Rattle.rm_machine.specs.{EnableThread.{is_outside}, Marks.{lacks_bytes, lacks_ids, lacks_room, marks_before, one_further}}
+use Rattle.rm_machine.specs.{Sound.{IsSound}, State.{current_of, ledger, now_of, online, redo_end}}
+use Rattle.rm_machine.specs.{SwitchLogfile.{is_due, log_bytes, log_entry, with_archived}, declared.state.State.{State}}
+use Rattle.rm_machine.proofs.{Archives.{room-one, thread-either}, Further.{roomy}, NewObjects.{count-logged}}
+use Rattle.rm_machine.proofs.{Switching.{CanArchive, due-parts, sound-after}, Threads.{disabled-switched, number-within, thread-in}}
+use Rattle.rm_machine.proofs.{ThreadSwitches as switching, ThreadSwitches.{CanSwitch, sound-switched, switch-fits}}
 
 -- what was not refused
 pub record IsAccepted (s : State) (t : ℕ) : Type 0 where

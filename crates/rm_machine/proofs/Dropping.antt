@@ -1,8 +1,7 @@
 -- The names of logs, pieces and sets are none of a saved site.
 use Rattle.std.proofs.Common.{◌≢◌, ℕ, List}
 use Rattle.rm_catalog_typed.specs.Ledger.{Ledger}
-use Rattle.rm_evidence.specs.Names.{site_name}
-use Rattle.rm_evidence.proofs.Names.{log-no-site, piece-no-site, set-no-site}
+use Rattle.rm_evidence.{specs.Names.{site_name}, proofs.Names.{log-no-site, piece-no-site, set-no-site}}
 use Rattle.rm_machine.specs.Names.{IsObjectName, of_log, of_piece, of_set}
 
 -- the name is that of no part

@@ -1,18 +1,11 @@
 -- Which threads are enabled at the end of an incarnation: the same while ends rise, since each switch lies below the end of its incarnation.
 use Rattle.std.proofs.Common.{◌≡◌, ◌<◌, ◌≤◌, ◌∙◌, ◌==◌, ◌&&◌, inl, inr, nat_le, ℕ, List, ap, sym, subst, arith, eqb, get_or, All}
-use Rattle.std.proofs.lemmas.Bool.{and_right, cases_Bool, eqb-true, le-leb}
-use Rattle.std.proofs.lemmas.List.Elements.{All-map}
-use Rattle.rm_history.specs.declared.tree.Incarnation.{Incarnation}
-use Rattle.rm_history.specs.declared.world.Switch.{Switch}
-use Rattle.rm_history.specs.Threads.{applies, is_enabled, is_on}
-use Rattle.rm_history.specs.Tree.{HasParentsBelow, IsThere, end_of, owner, reset_of}
-use Rattle.rm_history.proofs.Enabled.{last-same}
+use Rattle.std.proofs.lemmas.{Bool.{and_right, cases_Bool, eqb-true, le-leb}, List.Elements.{All-map}}
+use Rattle.rm_history.specs.{Threads.{applies, is_enabled, is_on}, Tree.{HasParentsBelow, IsThere, end_of, owner, reset_of}}
+use Rattle.rm_history.{specs.declared.{tree.Incarnation.{Incarnation}, world.Switch.{Switch}}, proofs.Enabled.{last-same}}
 use Rattle.rm_history.proofs.Owners.{owner-cases}
-use Rattle.rm_catalog_typed.specs.Ledger.{Ledger}
-use Rattle.rm_catalog_typed.specs.LedgerFacts.{IsLedger}
-use Rattle.rm_catalog_typed.specs.Switches.{is_enabled_in, switch_of, switches_of}
-use Rattle.rm_catalog_typed.specs.declared.thread_switch.ThreadSwitch.{ThreadSwitch}
-use Rattle.rm_catalog_typed.proofs.Trees.{Keeps, parents_below}
+use Rattle.rm_catalog_typed.specs.{Ledger.{Ledger}, LedgerFacts.{IsLedger}, Switches.{is_enabled_in, switch_of, switches_of}}
+use Rattle.rm_catalog_typed.{specs.declared.thread_switch.ThreadSwitch.{ThreadSwitch}, proofs.Trees.{Keeps, parents_below}}
 use Rattle.rm_machine.proofs.Standing.{each-get}
 
 -- what another incarnation owns on the path of m, below its own end, lies below the end of m

@@ -1,16 +1,8 @@
 -- ENABLE THREAD: the switch fits, and the database stays sound.
 use Rattle.std.proofs.Common.{◌≡◌, ◌+◌, ℕ, None, true, refl, arith, length, rules}
-use Rattle.rm_catalog_typed.specs.Fitting.{FitsSwitch}
-use Rattle.rm_catalog_typed.specs.Ledger.{ledger_records}
-use Rattle.rm_catalog_typed.specs.Switches.{next_sequence}
-use Rattle.rm_catalog_typed.proofs.InTurn.{next-small}
-use Rattle.rm_machine.specs.EnableThread.{enable_refusal, switch_on, with_thread_on}
-use Rattle.rm_machine.specs.Marks.{marks_before, one_further}
-use Rattle.rm_machine.specs.Sound.{IsSound}
-use Rattle.rm_machine.specs.declared.state.State.{State}
-use Rattle.rm_machine.specs.State.{ledger}
-use Rattle.rm_machine.proofs.Further.{roomy}
-use Rattle.rm_machine.proofs.Threads.{number-within}
+use Rattle.rm_catalog_typed.{specs.{Fitting.{FitsSwitch}, Ledger.{ledger_records}, Switches.{next_sequence}}, proofs.InTurn.{next-small}}
+use Rattle.rm_machine.specs.{EnableThread.{enable_refusal, switch_on, with_thread_on}, Marks.{marks_before, one_further}, Sound.{IsSound}}
+use Rattle.rm_machine.{specs.{State.{ledger}, declared.state.State.{State}}, proofs.{Further.{roomy}, Threads.{number-within}}}
 use Rattle.rm_machine.proofs.ThreadSwitches.{CanSwitch, sound-switched, switch-fits}
 
 -- what was not refused

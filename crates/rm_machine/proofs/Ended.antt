@@ -2,28 +2,15 @@
 use Rattle.std.proofs.Common.{◌≡◌, ◌<◌, ◌≤◌, ◌+◌, ◌-◌, ◌∙◌, ◌++◌, ◌⊎◌, inl, inr, nat_lt, Result, ℕ, suc, List, [], ◌∷◌, Ok, Err, Bool, true, false, cond, refl, ap, sym, arith, length, length-set, append-nil, map, set-set, slice_set}
 use Rattle.std.proofs.lemmas.Bool.{le-ltb, lt-ltb}
 use Rattle.rm_base.specs.declared.block.Mark.{Mark}
-use Rattle.rm_history.specs.declared.tree.Incarnation.{Incarnation}
-use Rattle.rm_history.specs.Tree.{IsThere, end_of, parent_of, reset_of, with_end}
+use Rattle.rm_history.specs.{Tree.{IsThere, end_of, parent_of, reset_of, with_end}, declared.tree.Incarnation.{Incarnation}}
 use Rattle.rm_history.proofs.Ends.{end_of-with_end, parent_of-with_end, reset_of-with_end}
-use Rattle.rm_live.specs.declared.history.Answer.{Answer}
-use Rattle.rm_live.specs.declared.history.Answer.TheVariants.{Found, Mended, Wrote}
-use Rattle.rm_live.specs.declared.history.Call.{Call}
-use Rattle.rm_live.specs.declared.history.Call.TheVariants.{Mend, Read, Write}
-use Rattle.rm_live.specs.declared.history.Event.{Event}
-use Rattle.rm_live.specs.declared.history.LiveFault.{LiveFault}
-use Rattle.rm_live.specs.Ruled.{total}
-use Rattle.rm_catalog_typed.specs.Changes.{with_end_at}
-use Rattle.rm_catalog_typed.specs.TypedCatalog.{TypedCatalog}
-use Rattle.rm_machine.specs.Marks.{last_marked, mark_now, marks_before, one_further}
-use Rattle.rm_machine.specs.declared.state.State.{State}
-use Rattle.rm_machine.specs.State.{current_of, ledger, now_of, tree}
-use Rattle.rm_channel.specs.Jobs.{Deed, wrote, wrote_of}
-use Rattle.rm_channel.specs.Made.{deed}
-use Rattle.rm_channel.specs.declared.jobs.WriteJob.{WriteJob}
-use Rattle.rm_channel.proofs.Mine.{total-append}
-use Rattle.rm_machine.specs.Events.{after_event, after_events}
-use Rattle.rm_machine.specs.Running.{count_writes, once, risen}
+use Rattle.rm_live.specs.{Ruled.{total}, declared.history.{Answer.{Answer, TheVariants.{Found, Mended, Wrote}}, Call.{Call}}}
+use Rattle.rm_live.specs.declared.history.{Call.TheVariants.{Mend, Read, Write}, Event.{Event}, LiveFault.{LiveFault}}
+use Rattle.rm_catalog_typed.specs.{Changes.{with_end_at}, TypedCatalog.{TypedCatalog}}
+use Rattle.rm_machine.specs.{Marks.{last_marked, mark_now, marks_before, one_further}, State.{current_of, ledger, now_of, tree}}
+use Rattle.rm_machine.specs.{Events.{after_event, after_events}, Running.{count_writes, once, risen}, declared.state.State.{State}}
 use Rattle.rm_machine.proofs.Following.{GoesAlong, goes-after}
+use Rattle.rm_channel.{specs.{Jobs.{Deed, wrote, wrote_of}, Made.{deed}, declared.jobs.WriteJob.{WriteJob}}, proofs.Mine.{total-append}}
 
 -- what runs, but for its datafiles and logs
 pub record IsAfter (s t : State) : Type 0 where

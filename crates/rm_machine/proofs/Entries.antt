@@ -1,35 +1,19 @@
 -- A database whose records of logs, pieces and sets change: what stands goes on to be borne out.
+use Rattle.std.specs.{Prelude.{IfSome}, Option.{option_map_or}}
 use Rattle.std.proofs.Common.{◌≡◌, ◌<◌, ◌≤◌, ◌==◌, ◌⊎◌, inl, inr, ℕ, List, Option, Some, None, Bool, refl, sym, subst, get_or, Contains}
-use Rattle.std.specs.Prelude.{IfSome}
-use Rattle.std.specs.Option.{option_map_or}
 use Rattle.std.proofs.lemmas.List.Elements.{All-contains, All-weaker, Contains-get_or}
-use Rattle.rm_base.specs.Store.{Held}
-use Rattle.rm_base.specs.declared.block.Change.{Change}
-use Rattle.rm_base.specs.declared.kinds.Kind.{Kind}
-use Rattle.rm_base.specs.declared.kinds.Kind.TheVariants.{Full, Level0, Level1, Place}
-use Rattle.rm_base.specs.declared.kinds.Status.{Status}
-use Rattle.rm_base.proofs.Lists.{find_cases}
-use Rattle.rm_catalog.specs.declared.record.LogEntry.{LogEntry}
-use Rattle.rm_catalog.specs.declared.record.PieceEntry.{PieceEntry}
-use Rattle.rm_catalog.specs.declared.record.SetEntry.{SetEntry}
+use Rattle.rm_base.specs.{Store.{Held}, declared.{block.Change.{Change}, kinds.Kind.{Kind, TheVariants.{Full, Level0, Level1, Place}}}}
+use Rattle.rm_base.{specs.declared.kinds.Status.{Status}, proofs.Lists.{find_cases}}
+use Rattle.rm_catalog.specs.{Objects.{FitsKind}, declared.record.{LogEntry.{LogEntry}, PieceEntry.{PieceEntry}, SetEntry.{SetEntry}}}
 use Rattle.rm_catalog.specs.declared.record.SetPart.{SetPart}
-use Rattle.rm_catalog.specs.Objects.{FitsKind}
-use Rattle.rm_catalog_typed.specs.LedgerFacts.{IsLogEntry, IsPieceEntry, IsSetEntry, IsSetPart}
-use Rattle.rm_catalog_typed.specs.Ledger.{Ledger}
-use Rattle.rm_catalog_typed.specs.Changes.{with_log, with_piece, with_set, without_log, without_piece}
-use Rattle.rm_catalog_typed.specs.Facts.{IsTypedCatalog, IsSaved}
-use Rattle.rm_catalog_typed.specs.Fitting.{FitsLog, FitsPiece, FitsSet, LacksId}
-use Rattle.rm_catalog_typed.specs.TypedCatalog.{TypedCatalog, Saved}
+use Rattle.rm_catalog_typed.specs.{LedgerFacts.{IsLogEntry, IsPieceEntry, IsSetEntry, IsSetPart}, Ledger.{Ledger}}
+use Rattle.rm_catalog_typed.specs.{Changes.{with_log, with_piece, with_set, without_log, without_piece}, Facts.{IsTypedCatalog, IsSaved}}
+use Rattle.rm_catalog_typed.specs.{Fitting.{FitsLog, FitsPiece, FitsSet, LacksId}, TypedCatalog.{TypedCatalog, Saved}, Worlds.{database_of}}
 use Rattle.rm_catalog_typed.proofs.Fitted.{log_fits, no_log_fits, no_piece_fits, no_set_fits, piece_fits, set_fits}
 use Rattle.rm_catalog_typed.proofs.Ones.{contains-with, contains-without}
-use Rattle.rm_machine.specs.Effect.{Made}
-use Rattle.rm_machine.specs.Machine.{HasLogArtefact, HasPieceArtefact, HasSetArtefact, IsBorneOut}
-use Rattle.rm_machine.specs.Sound.{IsSound}
-use Rattle.rm_machine.specs.declared.state.State.{State}
-use Rattle.rm_machine.specs.State.{ledger}
-use Rattle.rm_catalog_typed.specs.Worlds.{database_of}
-use Rattle.rm_machine.specs.Upkeep.{log_changed, piece_changed, set_changed, with_catalog, without_record}
-use Rattle.rm_machine.proofs.Later.{borne-same, sound-with}
+use Rattle.rm_machine.specs.{Effect.{Made}, Machine.{HasLogArtefact, HasPieceArtefact, HasSetArtefact, IsBorneOut}, Sound.{IsSound}}
+use Rattle.rm_machine.specs.{State.{ledger}, Upkeep.{log_changed, piece_changed, set_changed, with_catalog, without_record}}
+use Rattle.rm_machine.{specs.declared.state.State.{State}, proofs.Later.{borne-same, sound-with}}
 
 -- the catalog with other records of logs, pieces and sets
 abbrev pub with_entries : TypedCatalog → List LogEntry → List PieceEntry → List SetEntry → TypedCatalog

@@ -3,12 +3,8 @@ use Rattle.std.proofs.Common.{◌≡◌, ◌∙◌, ◌⊎◌, inl, inr, ℕ, Li
 use Rattle.std.proofs.lemmas.Bool.{both_ways}
 use Rattle.rm_blocks.specs.File.{File}
 use Rattle.rm_history.specs.declared.world.Datafile.{Datafile}
-use Rattle.rm_machine.specs.Sound.{IsPlaced, IsPoint, IsSound}
-use Rattle.rm_machine.specs.declared.state.State.{State}
-use Rattle.rm_machine.specs.State.{ledger, tree}
-use Rattle.rm_machine.proofs.Places.{counted-closed}
-use Rattle.rm_machine.proofs.Tracked.{tracked-same}
-use Rattle.rm_machine.proofs.Damaged.{damaged-none}
+use Rattle.rm_machine.specs.{Sound.{IsPlaced, IsPoint, IsSound}, State.{ledger, tree}, declared.state.State.{State}}
+use Rattle.rm_machine.proofs.{Places.{counted-closed}, Tracked.{tracked-same}, Damaged.{damaged-none}}
 
 -- the database with this in place, at this point
 abbrev pub exchanged : State → Option ℕ → List (Option File) → State

@@ -2,17 +2,12 @@
 use Rattle.std.proofs.Common.{◌==◌, ◌+◌, ◌<◌, ℕ, Bool, true, false, cond, List, [], ◌∷◌, Some, IfSome, All, subst}
 use Rattle.std.proofs.lemmas.List.Elements.{All-contains}
 use Rattle.rm_base.specs.declared.block.Change.{Change}
-use Rattle.rm_history.specs.declared.tree.Incarnation.{Incarnation}
-use Rattle.rm_history.specs.declared.world.Datafile.{Datafile}
+use Rattle.rm_history.specs.{Tree.{end_of}, World.{exists}, declared.{tree.Incarnation.{Incarnation}, world.Datafile.{Datafile}}}
 use Rattle.rm_history.specs.declared.world.World.{World}
-use Rattle.rm_history.specs.Tree.{end_of}
-use Rattle.rm_history.specs.World.{exists}
-use Rattle.rm_track.specs.Bitmaps.{Tracked, fresh, tracked_at}
-use Rattle.rm_track.specs.Told.{HasChange, LieBelow, Tell, TellChanges}
+use Rattle.rm_track.specs.{Bitmaps.{Tracked, fresh, tracked_at}, Told.{HasChange, LieBelow, Tell, TellChanges}}
 use Rattle.rm_track.proofs.Telling.{fresh-tells}
-use Rattle.rm_catalog_typed.specs.Ledger.{Ledger}
+use Rattle.rm_catalog_typed.specs.{Ledger.{Ledger}, Worlds.{world_of}}
 use Rattle.rm_machine.specs.Tracked.{first_tracker, fresh_from, tracks}
-use Rattle.rm_catalog_typed.specs.Worlds.{world_of}
 
 -- the changes of an incarnation lie below its end
 pub lie-below : (tree : List Incarnation) (i : ℕ) (h : List Change) → All (λ c. c.scn < end_of tree c.inc) h → LieBelow i h (end_of tree i)

@@ -1,36 +1,18 @@
 -- What is in place fits the records: each is valid, and of an incarnation that is there.
-use Rattle.std.proofs.Common.{◌≡◌, ℕ, List, Some, false, refl, sym, subst, arith, All, length, slice_get}
-use Rattle.std.specs.List.{filter_map}
-use Rattle.std.proofs.lemmas.List.Elements.{All-contains}
-use Rattle.std.proofs.lemmas.Option.{slice_get_within}
-use Rattle.rm_base.specs.Store.{Held}
-use Rattle.rm_base.proofs.Lists.{map_from}
-use Rattle.rm_base.proofs.Slots.{all-get}
+use Rattle.std.{specs.List.{filter_map}, proofs.Common.{◌≡◌, ℕ, List, Some, false, refl, sym, subst, arith, All, length, slice_get}}
+use Rattle.std.proofs.lemmas.{List.Elements.{All-contains}, Option.{slice_get_within}}
+use Rattle.rm_base.{specs.Store.{Held}, proofs.{Lists.{map_from}, Slots.{all-get}}}
 use Rattle.rm_blocks.specs.File.{File}
 use Rattle.rm_catalog.specs.declared.record.Record.{Record}
-use Rattle.rm_evidence.specs.declared.evidence.Evidence.{Evidence}
-use Rattle.rm_evidence.specs.declared.evidence.InPlace.{InPlace}
-use Rattle.rm_evidence.specs.Gathered.{IsGathered, placed_piece}
-use Rattle.rm_evidence.specs.Known.{FitsLog, FitsPiece}
-use Rattle.rm_evidence.specs.Place.{FitsPlace}
-use Rattle.rm_evidence.proofs.Fitting.{ascends}
-use Rattle.rm_history.specs.declared.world.Datafile.{Datafile}
-use Rattle.rm_history.proofs.Highs.{high-above, high-least}
-use Rattle.rm_catalog_typed.specs.LedgerFacts.{IsCreated}
-use Rattle.rm_catalog_typed.proofs.Lookups.{item-at}
+use Rattle.rm_evidence.specs.{Gathered.{IsGathered, placed_piece}, Known.{FitsLog, FitsPiece}, Place.{FitsPlace}}
+use Rattle.rm_evidence.{specs.declared.evidence.{Evidence.{Evidence}, InPlace.{InPlace}}, proofs.Fitting.{ascends}}
+use Rattle.rm_history.{specs.declared.world.Datafile.{Datafile}, proofs.Highs.{high-above, high-least}}
+use Rattle.rm_catalog_typed.{specs.{LedgerFacts.{IsCreated}, TypedCatalog.{records_of}}, proofs.{Lookups.{item-at}, Records.{tree-told}}}
 use Rattle.rm_piece.specs.Valid.{IsRow}
 use Rattle.rm_redo.specs.Online.{IsThread}
-use Rattle.rm_catalog_typed.specs.TypedCatalog.{records_of}
-use Rattle.rm_machine.specs.Damage.{undamaged}
-use Rattle.rm_machine.specs.Recovery.{IsAtHand, in_place}
-use Rattle.rm_machine.specs.Sound.{IsPlaced, IsPlacedRow, IsSound}
-use Rattle.rm_machine.specs.declared.state.State.{State}
-use Rattle.rm_machine.specs.State.{ledger, tree, counted, online, is_lost}
-use Rattle.rm_machine.proofs.AtHand.{online-in}
-use Rattle.rm_catalog_typed.proofs.Records.{tree-told}
-use Rattle.rm_machine.proofs.Standing.{at-place, each-in, present-in}
-use Rattle.rm_machine.proofs.Threads.{thread-in}
-use Rattle.rm_machine.proofs.Undamaged.{undamaged-at}
+use Rattle.rm_machine.specs.{Damage.{undamaged}, Recovery.{IsAtHand, in_place}, Sound.{IsPlaced, IsPlacedRow, IsSound}}
+use Rattle.rm_machine.{specs.{State.{ledger, tree, counted, online, is_lost}, declared.state.State.{State}}, proofs.AtHand.{online-in}}
+use Rattle.rm_machine.proofs.{Standing.{at-place, each-in, present-in}, Threads.{thread-in}, Undamaged.{undamaged-at}}
 
 module _ (s : State) (sound : IsSound s) where
   -- a whole copy of a datafile is a valid piece

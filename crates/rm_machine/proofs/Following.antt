@@ -1,30 +1,19 @@
 -- The state goes along with the live database: after each event its database is the live one.
+use Rattle.std.specs.{List.{filter_map}, Option.{option_map, option_map_or}}
 use Rattle.std.proofs.Common.{◌≡◌, ◌≢◌, ◌<◌, ◌≤◌, ◌+◌, ◌-◌, ◌∙◌, ◌==◌, inl, inr, ℕ, zero, suc, List, [], ◌∷◌, Option, Some, None, Ok, Err, true, false, is_some, cond, refl, ap, sym, subst, arith, find, length, slice_get, slice_set, slice_index_or}
-use Rattle.std.specs.List.{filter_map}
-use Rattle.std.specs.Option.{option_map, option_map_or}
 use Rattle.std.proofs.lemmas.Bool.{eq-eqb, ne_eqb}
-use Rattle.rm_base.specs.declared.block.Block.{Block}
-use Rattle.rm_base.specs.declared.block.Row.{Row}
-use Rattle.rm_base.proofs.Slots.{get-index, get-set, index-get}
+use Rattle.rm_base.{specs.declared.block.{Block.{Block}, Row.{Row}}, proofs.Slots.{get-index, get-set, index-get}}
 use Rattle.rm_blocks.specs.File.{File, put}
-use Rattle.rm_history.specs.Tree.{IsThere}
-use Rattle.rm_history.proofs.Ends.{IsThere-with_end, end_of-with_end}
-use Rattle.rm_live.specs.declared.history.Answer.{Answer}
-use Rattle.rm_live.specs.declared.history.Answer.TheVariants.{Found, Mended, Wrote}
-use Rattle.rm_live.specs.declared.history.Call.{Call}
-use Rattle.rm_live.specs.declared.history.Call.TheVariants.{Mend, Read, Write}
-use Rattle.rm_live.specs.declared.history.Event.{Event}
+use Rattle.rm_history.{specs.Tree.{IsThere}, proofs.Ends.{IsThere-with_end, end_of-with_end}}
 use Rattle.rm_live.specs.History.{IsLegal, IsRight, after, fold_of, with_write as with_live_write}
-use Rattle.rm_live.specs.Parts.{Parts, refusal_by, refusal_of, row_at, with_put}
-use Rattle.rm_redo.specs.Online.{thread_records, with_change}
-use Rattle.rm_redo.proofs.Logs.{inc-with_change}
+use Rattle.rm_live.specs.{Parts.{Parts, refusal_by, refusal_of, row_at, with_put}, declared.history.Answer.{Answer}}
+use Rattle.rm_live.specs.declared.history.{Answer.TheVariants.{Found, Mended, Wrote}, Call.{Call, TheVariants.{Mend, Read, Write}}}
+use Rattle.rm_live.specs.declared.history.Event.{Event}
+use Rattle.rm_redo.{specs.Online.{thread_records, with_change}, proofs.Logs.{inc-with_change}}
 use Rattle.rm_track.specs.Bitmaps.{mark_at}
-use Rattle.rm_machine.specs.Sound.{IsSound}
-use Rattle.rm_machine.specs.declared.state.State.{State}
-use Rattle.rm_machine.specs.State.{current_of, now_of, placed, tree}
-use Rattle.rm_machine.specs.Write.{change_of, with_write}
+use Rattle.rm_machine.specs.{Sound.{IsSound}, State.{current_of, now_of, placed, tree}, Write.{change_of, with_write}}
+use Rattle.rm_machine.specs.{Events.{after_event, after_events, opening, standing_in, write_form}, declared.state.State.{State}}
 use Rattle.rm_machine.proofs.Places.{placed-is}
-use Rattle.rm_machine.specs.Events.{after_event, after_events, opening, standing_in, write_form}
 
 -- what stands in these places
 abbrev pub present : List (Option File) → List File

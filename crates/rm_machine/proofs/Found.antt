@@ -1,22 +1,14 @@
 -- What a read finds in an open database.
+use Rattle.std.specs.{List.{filter_map}, Option.{option_map_or}}
 use Rattle.std.proofs.Common.{◌≡◌, ◌<◌, ◌-◌, ◌==◌, ℕ, suc, List, [], ◌∷◌, Option, Some, None, Bool, true, false, cond, refl, ap, subst, arith, Contains, find, slice_get, slice_index_or}
-use Rattle.std.specs.List.{filter_map}
-use Rattle.std.specs.Option.{option_map_or}
-use Rattle.std.proofs.lemmas.Bool.{eqb-true}
-use Rattle.std.proofs.lemmas.List.Elements.{All-contains_itself}
-use Rattle.std.proofs.lemmas.Option.{slice_get_within}
-use Rattle.rm_base.specs.declared.block.Row.{Row}
-use Rattle.rm_base.proofs.Slots.{all-get, get-index, index-get}
+use Rattle.std.proofs.lemmas.{Bool.{eqb-true}, List.Elements.{All-contains_itself}, Option.{slice_get_within}}
+use Rattle.rm_base.{specs.declared.block.Row.{Row}, proofs.Slots.{all-get, get-index, index-get}}
 use Rattle.rm_blocks.specs.File.{File, standing}
 use Rattle.rm_history.proofs.Highs.{high-above}
 use Rattle.rm_catalog_typed.proofs.Lookups.{item-at}
 use Rattle.rm_live.specs.Parts.{row_at}
-use Rattle.rm_machine.specs.Sound.{IsPlaced, IsPlacedRow, IsSound}
-use Rattle.rm_machine.specs.declared.state.State.{State}
-use Rattle.rm_machine.specs.State.{current_of, now_of, placed, tree}
-use Rattle.rm_machine.proofs.Places.{counted-open, placed-is}
-use Rattle.rm_machine.specs.Events.{standing_in}
-use Rattle.rm_machine.proofs.PiecesRead.{IsFound}
+use Rattle.rm_machine.specs.{Sound.{IsPlaced, IsPlacedRow, IsSound}, State.{current_of, now_of, placed, tree}, Events.{standing_in}}
+use Rattle.rm_machine.{specs.declared.state.State.{State}, proofs.{Places.{counted-open, placed-is}, PiecesRead.{IsFound}}}
 
 -- the place of a datafile that is found by its number
 found-at : (place : List (Option File)) (f : ℕ) (x : File) → find (λ (y : File). y.file == f) (filter_map (λ o. o) place) ≡ Some x → (k : ℕ) × (slice_get place k ≡ Some (Some x)) × (x.file ≡ f)

@@ -1,30 +1,17 @@
 -- One SCN further: the current incarnation of an open database ends one SCN later, behind the mark of `now`.
 use Rattle.std.proofs.Common.{◌≡◌, ◌<◌, ◌≤◌, ◌+◌, ◌-◌, ◌∙◌, ◌&&◌, ◌⊎◌, nat_lt, inl, inr, ℕ, List, true, false, refl, ap, sym, subst, arith, length, length-append}
-use Rattle.std.proofs.lemmas.Bool.{and_from, cases_lt, lt-ltb}
-use Rattle.std.proofs.lemmas.List.{length-set}
+use Rattle.std.proofs.lemmas.{Bool.{and_from, cases_lt, lt-ltb}, List.{length-set}}
 use Rattle.rm_base.specs.Numbers.{last_scn}
 use Rattle.rm_blocks.specs.File.{File, standing}
-use Rattle.rm_history.specs.declared.tree.Incarnation.{Incarnation}
-use Rattle.rm_history.specs.declared.world.Datafile.{Datafile}
-use Rattle.rm_history.specs.Tree.{IsThere, end_of}
-use Rattle.rm_history.proofs.Ends.{end_of-with_end}
-use Rattle.rm_history.proofs.Highs.{high-above, high-bound}
-use Rattle.rm_catalog_typed.specs.Ledger.{ledger_records}
-use Rattle.rm_catalog_typed.specs.Switches.{is_enabled_in}
-use Rattle.rm_catalog_typed.proofs.Trees.{Keeps, keeps_end}
-use Rattle.rm_catalog_typed.specs.Facts.{IsTypedCatalog}
-use Rattle.rm_catalog_typed.proofs.Fitted.{end_fits, many}
+use Rattle.rm_history.specs.{Tree.{IsThere, end_of}, declared.{tree.Incarnation.{Incarnation}, world.Datafile.{Datafile}}}
+use Rattle.rm_history.proofs.{Ends.{end_of-with_end}, Highs.{high-above, high-bound}}
+use Rattle.rm_catalog_typed.specs.{Ledger.{ledger_records}, Switches.{is_enabled_in}, Facts.{IsTypedCatalog}}
+use Rattle.rm_catalog_typed.proofs.{Trees.{Keeps, keeps_end}, Fitted.{end_fits, many}}
 use Rattle.rm_redo.specs.Online.{IsThread, has_log}
-use Rattle.rm_machine.specs.Marks.{last_marked, marks_before, one_further, with_marks}
-use Rattle.rm_machine.specs.Sound.{IsOnline, IsPlaced, IsSound}
-use Rattle.rm_machine.specs.declared.state.State.{State}
-use Rattle.rm_machine.specs.State.{ledger, current_of, now_of, redo_end, online, is_lost}
-use Rattle.rm_machine.proofs.Enabled.{enabled-risen}
-use Rattle.rm_machine.proofs.FurtherLogs.{log-further}
-use Rattle.rm_machine.proofs.Places.{counted-open}
-use Rattle.rm_machine.proofs.BackupMarks.{marks-fit}
-use Rattle.rm_machine.proofs.Tracked.{tracked-later}
-use Rattle.rm_machine.proofs.Damaged.{damaged-later}
+use Rattle.rm_machine.specs.{Marks.{last_marked, marks_before, one_further, with_marks}, Sound.{IsOnline, IsPlaced, IsSound}}
+use Rattle.rm_machine.specs.{State.{ledger, current_of, now_of, redo_end, online, is_lost}, declared.state.State.{State}}
+use Rattle.rm_machine.proofs.{Enabled.{enabled-risen}, FurtherLogs.{log-further}, Places.{counted-open}, BackupMarks.{marks-fit}}
+use Rattle.rm_machine.proofs.{Tracked.{tracked-later}, Damaged.{damaged-later}}
 
 -- so many records are not too many
 pub roomy-either : (n total : ℕ) → (nat_lt 0 n && nat_lt 65536 total) ≡ false → (n ≡ 0) ⊎ (total ≤ 65536)

@@ -1,13 +1,10 @@
 -- A log that tells further.
 use Rattle.std.proofs.Common.{◌≡◌, ◌<◌, ◌≤◌, ◌++◌, ◌⊎◌, ◌^◌, inl, inr, [], ◌∷◌, sym, subst, arith, length, length-append, All, AllPairs}
 use Rattle.std.proofs.lemmas.List.Elements.{All-contains, All-push, All-weaker}
-use Rattle.rm_base.specs.Numbers.{last_scn}
-use Rattle.rm_base.proofs.Members.{none-in, first-or-rest}
+use Rattle.rm_base.{specs.Numbers.{last_scn}, proofs.Members.{none-in, first-or-rest}}
 use Rattle.rm_catalog_typed.proofs.Keeping.{pairs_append}
-use Rattle.rm_redo.specs.declared.log_file.LogFile.{LogFile}
+use Rattle.rm_redo.specs.{LogFormat.{IsLogFile, IsLogRecord}, Logs.{IsBefore}, declared.log_file.LogFile.{LogFile}}
 use Rattle.rm_redo.specs.declared.online.LogRecord.{LogRecord}
-use Rattle.rm_redo.specs.LogFormat.{IsLogFile, IsLogRecord}
-use Rattle.rm_redo.specs.Logs.{IsBefore}
 
 -- r stands behind all that the log tells
 pub record IsPushed (l m : LogFile) (r : LogRecord) : Type 0 where

@@ -1,8 +1,6 @@
 -- Lists that are cut into groups.
 use Rattle.std.proofs.Common.{◌≡◌, ◌<◌, ◌≤◌, ◌+◌, ◌∙◌, ℕ, zero, suc, List, [], ◌∷◌, All, AllPairs, ap, refl, sym, subst, arith, drop, get_or, length, length-drop, length-take, map, sum_by, take, get_or-drop, get_or-take}
-use Rattle.std.proofs.lemmas.List.Elements.{All-cons, All-map, All-nil}
-use Rattle.std.proofs.lemmas.List.Kept.{AllPairs-cons}
-use Rattle.std.proofs.lemmas.List.Sums.{sum_by-cons}
+use Rattle.std.proofs.lemmas.List.{Elements.{All-cons, All-map, All-nil}, Kept.{AllPairs-cons}, Sums.{sum_by-cons}}
 use Rattle.rm_machine.specs.Backup.{cut}
 
 -- where something is so of a list, of its first n items and of what is left behind them, it is so of each group

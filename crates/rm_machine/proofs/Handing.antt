@@ -3,11 +3,7 @@ use Rattle.std.proofs.Common.{◌≡◌, List, Option, Some, sym, subst}
 use Rattle.rm_base.specs.Store.{Held}
 use Rattle.rm_lang_statement.specs.declared.command.Command.{Command}
 use Rattle.rm_report.specs.declared.line.Line.{Line}
-use Rattle.rm_machine.specs.Effect.{Effect, done}
-use Rattle.rm_machine.specs.Hands.{Hands}
-use Rattle.rm_machine.specs.Step.{IsDone}
-use Rattle.rm_machine.specs.declared.handed.Handed.{Handed}
-use Rattle.rm_machine.specs.declared.state.State.{State}
+use Rattle.rm_machine.specs.{Effect.{Effect, done}, Hands.{Hands}, Step.{IsDone}, declared.{handed.Handed.{Handed}, state.State.{State}}}
 
 -- by these lines, this effect and this state
 pub hands-by : (held : Option Held) (s : State) (c : Command) (x : Handed) (t : State) (lines : List Line) (e : Effect) (q : State)

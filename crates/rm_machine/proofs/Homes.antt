@@ -1,12 +1,8 @@
 -- Each datafile that stands in place comes home.
 use Rattle.std.proofs.Common.{◌≡◌, ◌+◌, ◌-◌, ◌∙◌, ◌++◌, ℕ, suc, List, [], ◌∷◌, Option, Some, None, refl, ap, sym, arith, length, length-append, length-set, append_assoc, replicate, slice_set, All}
-use Rattle.std.proofs.lemmas.List.Elements.{All-rest}
-use Rattle.std.proofs.lemmas.Option.{slice_get_within}
-use Rattle.std.proofs.Math.Seq.{set-append_seam}
+use Rattle.std.proofs.{lemmas.{List.Elements.{All-rest}, Option.{slice_get_within}}, Math.Seq.{set-append_seam}}
 use Rattle.rm_blocks.specs.File.{File}
-use Rattle.rm_machine.specs.Running.{HasNumber, at_home}
-use Rattle.rm_machine.proofs.Following.{AreFrom, present}
-use Rattle.rm_machine.proofs.Opening.{present-all}
+use Rattle.rm_machine.{specs.Running.{HasNumber, at_home}, proofs.{Following.{AreFrom, present}, Opening.{present-all}}}
 
 -- their numbers are those of their places
 pub present-numbers : (place : List (Option File)) → AreFrom 0 place → All (HasNumber (length place)) (present place)

@@ -2,9 +2,7 @@
 use Rattle.std.proofs.Common.{◌≡◌, ◌+◌, ◌∙◌, ◌++◌, ℕ, zero, suc, List, [], ◌∷◌, cond, ap, sym, arith}
 use Rattle.std.proofs.lemmas.List.{append-nil, append_assoc}
 use Rattle.rm_redo.specs.declared.log_file.LogFile.{LogFile}
-use Rattle.rm_machine.specs.Recovery.{online_logs}
-use Rattle.rm_machine.specs.declared.state.State.{State}
-use Rattle.rm_machine.specs.State.{is_online, online}
+use Rattle.rm_machine.specs.{Recovery.{online_logs}, State.{is_online, online}, declared.state.State.{State}}
 
 -- the online log of one thread more
 abbrev pub online_of : State → ℕ → List LogFile

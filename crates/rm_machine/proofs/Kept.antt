@@ -2,20 +2,13 @@
 use Rattle.std.proofs.Common.{◌≡◌, ◌-◌, ◌∙◌, ◌⊎◌, inl, inr, ℕ, List, Option, Some, None, IsSomeAnd, refl, sym, subst, slice_get, Contains}
 use Rattle.std.proofs.lemmas.List.Elements.{All-weaker}
 use Rattle.rm_base.specs.Store.{Held}
-use Rattle.rm_catalog.specs.declared.record.LogEntry.{LogEntry}
-use Rattle.rm_catalog.specs.declared.record.PieceEntry.{PieceEntry}
-use Rattle.rm_catalog.specs.declared.record.SetEntry.{SetEntry}
-use Rattle.rm_catalog_typed.specs.Ledger.{Ledger}
-use Rattle.rm_evidence.specs.Database.{Database}
-use Rattle.rm_evidence.specs.Names.{log_name, piece_name, set_name}
-use Rattle.rm_evidence.specs.Objects.{HasSetFields, IsAsCreated}
+use Rattle.rm_catalog.specs.declared.record.{LogEntry.{LogEntry}, PieceEntry.{PieceEntry}, SetEntry.{SetEntry}}
+use Rattle.rm_catalog_typed.specs.{Ledger.{Ledger}, Worlds.{database_of}}
+use Rattle.rm_evidence.specs.{Database.{Database}, Names.{log_name, piece_name, set_name}, Objects.{HasSetFields, IsAsCreated}}
 use Rattle.rm_history.specs.declared.world.Datafile.{Datafile}
-use Rattle.rm_piece.specs.declared.set.Set.{Set}
-use Rattle.rm_piece.specs.declared.set.SetFile.{SetFile}
-use Rattle.rm_machine.specs.Effect.{Made, LeavesObjects, no_effect}
-use Rattle.rm_machine.specs.Names.{IsObjectName, of_log, of_piece, of_set}
+use Rattle.rm_piece.specs.declared.set.{Set.{Set}, SetFile.{SetFile}}
+use Rattle.rm_machine.specs.{Effect.{Made, LeavesObjects, no_effect}, Names.{IsObjectName, of_log, of_piece, of_set}}
 use Rattle.rm_machine.specs.Machine.{HaveArtefacts, HasLogArtefact, HasPieceArtefact, HasSetArtefact, HoldsUnder}
-use Rattle.rm_catalog_typed.specs.Worlds.{database_of}
 
 -- what stands under the names of the records that stay goes on to do so
 abbrev pub StandOn : Held → Held → List (List ℕ) → List (List ℕ) → Ledger → Ledger → Type 0

@@ -1,26 +1,13 @@
 -- A later moment: the same database, without a saved site.
 use Rattle.std.proofs.Common.{◌⊎◌, inl, refl, ℕ, List, Contains}
-use Rattle.rm_base.specs.Store.{Held}
-use Rattle.rm_base.specs.declared.block.Change.{Change}
-use Rattle.rm_catalog.specs.declared.record.LogEntry.{LogEntry}
-use Rattle.rm_catalog.specs.declared.record.PieceEntry.{PieceEntry}
-use Rattle.rm_catalog.specs.declared.record.SetEntry.{SetEntry}
-use Rattle.rm_catalog_typed.specs.Changes.{with_moment}
-use Rattle.rm_catalog_typed.specs.Facts.{IsTypedCatalog}
-use Rattle.rm_catalog_typed.specs.TypedCatalog.{TypedCatalog}
-use Rattle.rm_catalog_typed.proofs.Changed.{unsaved_fits}
-use Rattle.rm_catalog_typed.proofs.Fitted.{base_fits, moment_fits}
-use Rattle.rm_machine.specs.Effect.{Made}
-use Rattle.rm_machine.specs.Laws.{IsMomentOf}
-use Rattle.rm_machine.specs.Machine.{HasLogArtefact, HasPieceArtefact, HasSetArtefact, HistoryFits, IsBorneOut}
-use Rattle.rm_machine.specs.Sound.{IsSound}
-use Rattle.rm_machine.specs.declared.state.State.{State}
-use Rattle.rm_machine.specs.State.{at_moment, ledger}
-use Rattle.rm_catalog_typed.specs.Worlds.{database_of}
-use Rattle.rm_machine.specs.Upkeep.{with_catalog}
-use Rattle.rm_machine.proofs.Kept.{StandOn, kept-on, names-of, stand-same, stays-so}
-use Rattle.rm_machine.proofs.Tracked.{tracked-same}
-use Rattle.rm_machine.proofs.Damaged.{damaged-same}
+use Rattle.rm_base.specs.{Store.{Held}, declared.block.Change.{Change}}
+use Rattle.rm_catalog.specs.declared.record.{LogEntry.{LogEntry}, PieceEntry.{PieceEntry}, SetEntry.{SetEntry}}
+use Rattle.rm_catalog_typed.specs.{Changes.{with_moment}, Facts.{IsTypedCatalog}, TypedCatalog.{TypedCatalog}, Worlds.{database_of}}
+use Rattle.rm_catalog_typed.proofs.{Changed.{unsaved_fits}, Fitted.{base_fits, moment_fits}}
+use Rattle.rm_machine.specs.{Effect.{Made}, Laws.{IsMomentOf}}
+use Rattle.rm_machine.specs.{Machine.{HasLogArtefact, HasPieceArtefact, HasSetArtefact, HistoryFits, IsBorneOut}, Sound.{IsSound}}
+use Rattle.rm_machine.specs.{State.{at_moment, ledger}, Upkeep.{with_catalog}, declared.state.State.{State}}
+use Rattle.rm_machine.proofs.{Kept.{StandOn, kept-on, names-of, stand-same, stays-so}, Tracked.{tracked-same}, Damaged.{damaged-same}}
 
 -- other records, with the facts on which what runs rests
 abbrev pub resting : State → TypedCatalog → TypedCatalog

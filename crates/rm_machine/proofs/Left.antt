@@ -1,8 +1,7 @@
 -- Room for records and ids.
 use Rattle.std.proofs.Common.{ℕ, ◌+◌, ◌≤◌, length}
 use Rattle.rm_catalog_typed.specs.Ledger.{ledger_records}
-use Rattle.rm_machine.specs.declared.state.State.{State}
-use Rattle.rm_machine.specs.State.{ledger}
+use Rattle.rm_machine.specs.{State.{ledger}, declared.state.State.{State}}
 
 -- so many records more can be made
 pub record HasRoom (s : State) (n : ℕ) : Type 0 where

@@ -1,15 +1,9 @@
 -- Where each datafile with a damaged block is lost, what is left agrees with the history as before.
 use Rattle.std.proofs.Common.{◌≡◌, ◌+◌, ◌-◌, ◌∙◌, ◌==◌, ◌&&◌, ◌||◌, ℕ, Bool, true, false, Option, Some, None, List, [], ◌∷◌, refl, ap, sym, arith, slice_index_or}
-use Rattle.rm_base.proofs.Slots.{get-index, index-get}
-use Rattle.rm_base.specs.declared.block.BlockId.{BlockId}
-use Rattle.rm_base.specs.declared.block.Change.{Change}
+use Rattle.rm_base.{specs.declared.block.{BlockId.{BlockId}, Change.{Change}}, proofs.Slots.{get-index, index-get}}
 use Rattle.rm_blocks.specs.File.{File}
-use Rattle.rm_machine.specs.Damage.{has_block, has_file, undamaged, without_damaged}
-use Rattle.rm_machine.specs.Machine.{HistoryFits, SoundRowsAre}
-use Rattle.rm_machine.specs.Sound.{IsSound}
-use Rattle.rm_machine.specs.declared.state.State.{State}
-use Rattle.rm_machine.specs.State.{current_of, now_of, placed, world}
-use Rattle.rm_machine.proofs.Places.{placed-is}
+use Rattle.rm_machine.specs.{Damage.{has_block, has_file, undamaged, without_damaged}, Machine.{HistoryFits, SoundRowsAre}, Sound.{IsSound}}
+use Rattle.rm_machine.{specs.{State.{current_of, now_of, placed, world}, declared.state.State.{State}}, proofs.Places.{placed-is}}
 use Rattle.rm_machine.proofs.Undamaged.{undamaged-at}
 
 -- what is left in place stood there, and no block of it is damaged

@@ -2,9 +2,7 @@
 use Rattle.std.proofs.Common.{◌≡◌, ◌<◌, ◌+◌, ◌∙◌, ◌&&◌, ℕ, zero, suc, List, [], ◌∷◌, Option, Some, None, true, false, Bool, cond, ap, arith, length, get_or, drop, is_none, is_some, not, refl}
 use Rattle.std.proofs.lemmas.Bool.{and_right}
 use Rattle.rm_blocks.specs.File.{File}
-use Rattle.rm_history.specs.declared.world.Datafile.{Datafile}
-use Rattle.rm_history.specs.declared.world.World.{World}
-use Rattle.rm_history.specs.World.{exists}
+use Rattle.rm_history.specs.{World.{exists}, declared.world.{Datafile.{Datafile}, World.{World}}}
 use Rattle.rm_machine.specs.Mount.{first_lost}
 
 is_none-by : (o : Option File) (b : Bool) → is_some o ≡ not b → is_none o ≡ b

@@ -1,6 +1,6 @@
 -- The last of the marks that are picked is the last one that passes both tests.
-use Rattle.std.proofs.Common.{◌≡◌, ◌∙◌, ◌&&◌, refl, ap, Bool, true, false, cond, List, [], ◌∷◌, Some}
 use Rattle.std.specs.Prelude.{filter, find, reverse}
+use Rattle.std.proofs.Common.{◌≡◌, ◌∙◌, ◌&&◌, refl, ap, Bool, true, false, cond, List, [], ◌∷◌, Some}
 use mathlib.Core.List.{reverse_aux}
 
 module _ {X : Type 0} (p : X → Bool) where

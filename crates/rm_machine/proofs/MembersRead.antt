@@ -1,43 +1,20 @@
 -- The member of a backup set that is made of what was read of a datafile: it is valid, its record fits, and it is true where the rows agree
 -- with the history.
-use Rattle.std.proofs.Common.{◌≡◌, ◌≢◌, ◌<◌, ◌≤◌, ◌+◌, ◌-◌, ◌∙◌, ◌==◌, ℕ, List, Option, Some, None, true, false, cond, refl, ap, sym, subst, arith, length, map, Contains, get_or, is_none, nat_le, nat_lt, slice_get, unwrap_or}
 use Rattle.std.specs.Option.{option_map_or}
-use Rattle.std.proofs.lemmas.Bool.{and_parts, eqb-true, le-leb}
-use Rattle.std.proofs.lemmas.List.{get_or-map, length-map}
-use Rattle.std.proofs.lemmas.List.Elements.{All-map, All-weaker}
-use Rattle.rm_base.specs.Created.{created_row}
-use Rattle.rm_base.specs.declared.block.Change.{Change}
-use Rattle.rm_base.specs.declared.block.Row.{Row}
+use Rattle.std.proofs.Common.{◌≡◌, ◌≢◌, ◌<◌, ◌≤◌, ◌+◌, ◌-◌, ◌∙◌, ◌==◌, ℕ, List, Option, Some, None, true, false, cond, refl, ap, sym, subst, arith, length, map, Contains, get_or, is_none, nat_le, nat_lt, slice_get, unwrap_or}
+use Rattle.std.proofs.lemmas.{Bool.{and_parts, eqb-true, le-leb}, List.{get_or-map, length-map, Elements.{All-map, All-weaker}}}
+use Rattle.rm_base.specs.{Created.{created_row}, declared.block.{Change.{Change}, Row.{Row}}}
 use Rattle.rm_base.specs.declared.kinds.Kind.TheVariants.{Full, Level0, Level1, Place}
-use Rattle.rm_catalog.specs.SetRules.{FitsPartKind}
-use Rattle.rm_catalog.specs.declared.record.SetEntry.{SetEntry}
-use Rattle.rm_history.specs.Agrees.{IsRow as IsState}
-use Rattle.rm_history.specs.History.{IsHistory}
-use Rattle.rm_history.specs.Tree.{owner}
-use Rattle.rm_history.specs.World.{creation_of}
-use Rattle.rm_history.specs.declared.world.Datafile.{Datafile}
-use Rattle.rm_history.proofs.Highs.{high-least}
+use Rattle.rm_catalog.specs.{SetRules.{FitsPartKind}, declared.record.SetEntry.{SetEntry}}
+use Rattle.rm_history.specs.{Agrees.{IsRow as IsState}, History.{IsHistory}, Tree.{owner}, World.{creation_of}}
+use Rattle.rm_history.{specs.declared.world.Datafile.{Datafile}, proofs.Highs.{high-least}}
 use Rattle.rm_catalog_typed.specs.LedgerFacts.{IsCreated, IsSetPart}
-use Rattle.rm_piece.specs.declared.set.Set.{Set}
-use Rattle.rm_piece.specs.declared.set.SetFile.{SetFile}
-use Rattle.rm_piece.specs.Filling.{risen}
-use Rattle.rm_piece.specs.Rows.{from_on}
-use Rattle.rm_piece.specs.Sets.{IsMember}
-use Rattle.rm_piece.specs.Valid.{IsPiece}
-use Rattle.rm_piece.proofs.Filled.{filter-all}
-use Rattle.rm_piece.proofs.Risen.{risen-member, states-same}
-use Rattle.rm_piece.proofs.SetFitting.{few_spelled}
+use Rattle.rm_piece.specs.{Filling.{risen}, Rows.{from_on}, Sets.{IsMember}, Valid.{IsPiece}, declared.set.{Set.{Set}, SetFile.{SetFile}}}
+use Rattle.rm_piece.proofs.{Filled.{filter-all}, Risen.{risen-member, states-same}, SetFitting.{few_spelled}}
 use Rattle.rm_lang_statement.specs.declared.command.BackupForm.{BackupForm}
-use Rattle.rm_machine.specs.Backup.{kind_by, part_of, rows_from}
-use Rattle.rm_machine.specs.Effect.{a_piece}
-use Rattle.rm_machine.specs.Machine.{IsTrueArtefact}
-use Rattle.rm_machine.specs.MadePieces.{piece_by}
-use Rattle.rm_machine.specs.MadeSets.{member_by}
-use Rattle.rm_machine.specs.Sound.{IsSound}
-use Rattle.rm_machine.specs.declared.job.Job.{Job}
-use Rattle.rm_machine.specs.declared.state.State.{State}
-use Rattle.rm_machine.specs.State.{ledger, tree, world, current_of, now_of}
-use Rattle.rm_machine.proofs.Numbers.{file-at}
+use Rattle.rm_machine.specs.{Backup.{kind_by, part_of, rows_from}, Effect.{a_piece}, Machine.{IsTrueArtefact}, MadePieces.{piece_by}}
+use Rattle.rm_machine.specs.{MadeSets.{member_by}, Sound.{IsSound}, State.{ledger, tree, world, current_of, now_of}, declared.job.Job.{Job}}
+use Rattle.rm_machine.{specs.declared.state.State.{State}, proofs.Numbers.{file-at}}
 use Rattle.rm_machine.proofs.PiecesRead.{AreAll, AreRead, BeginsBelow, IsCheckpoint, IsFound, blocks-are, created, few-rows, high-most, piece-valid, whole-by}
 
 -- the creation of a datafile

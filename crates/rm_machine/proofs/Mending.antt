@@ -1,24 +1,14 @@
 -- Along the events of a BLOCKRECOVER, mends and writes, the database stays sound.
 use Rattle.std.proofs.Common.{◌≡◌, ◌≢◌, ◌<◌, ℕ, List, [], ◌∷◌, Some, Ok, Err, true, false, arith, length, Contains}
 use Rattle.std.proofs.lemmas.List.Elements.{All-weaker}
-use Rattle.rm_base.specs.declared.block.Change.{Change}
-use Rattle.rm_base.specs.declared.block.Row.{Row}
+use Rattle.rm_base.specs.declared.block.{Change.{Change}, Row.{Row}}
 use Rattle.rm_blocks.specs.File.{File}
 use Rattle.rm_lang_statement.specs.declared.command.WriteForm.{WriteForm}
-use Rattle.rm_live.specs.declared.history.Answer.{Answer}
-use Rattle.rm_live.specs.declared.history.Answer.TheVariants.{Found, Mended, Wrote}
-use Rattle.rm_live.specs.declared.history.Call.{Call}
-use Rattle.rm_live.specs.declared.history.Call.TheVariants.{Mend, Read, Write}
-use Rattle.rm_live.specs.declared.history.Event.{Event}
-use Rattle.rm_live.specs.History.{IsLegal, IsRight}
-use Rattle.rm_machine.specs.Events.{after_event, after_events, change_by, opening, with_placed_row, write_form}
-use Rattle.rm_machine.specs.Sound.{IsPlacedRow}
-use Rattle.rm_machine.specs.Write.{change_of, with_write}
-use Rattle.rm_machine.specs.declared.state.State.{State}
-use Rattle.rm_machine.specs.State.{now_of, placed}
-use Rattle.rm_machine.proofs.BackupAccepted.{CanBeWritten}
-use Rattle.rm_machine.proofs.Damaged.{Stays, put-stays}
-use Rattle.rm_machine.proofs.Putting.{sound-put}
+use Rattle.rm_live.specs.{History.{IsLegal, IsRight}, declared.history.{Answer.{Answer, TheVariants.{Found, Mended, Wrote}}, Call.{Call}}}
+use Rattle.rm_live.specs.declared.history.{Call.TheVariants.{Mend, Read, Write}, Event.{Event}}
+use Rattle.rm_machine.specs.{Events.{after_event, after_events, change_by, opening, with_placed_row, write_form}, Sound.{IsPlacedRow}}
+use Rattle.rm_machine.specs.{Write.{change_of, with_write}, State.{now_of, placed}, declared.state.State.{State}}
+use Rattle.rm_machine.proofs.{BackupAccepted.{CanBeWritten}, Damaged.{Stays, put-stays}, Putting.{sound-put}}
 use Rattle.rm_machine.proofs.Walk.{CanGoOn, event-on, legal-on}
 
 -- a row of a datafile

@@ -1,18 +1,12 @@
 -- A copy after merges: of the incarnation and the checkpoint of the last level 1, and within the end of that incarnation.
-use Rattle.std.proofs.Common.{◌≡◌, ◌≤◌, ◌∙◌, ℕ, List, Some, refl, subst, arith, length, All, Contains}
-use Rattle.std.proofs.lemmas.List.{length-map}
+use Rattle.std.proofs.{Common.{◌≡◌, ◌≤◌, ◌∙◌, ℕ, List, Some, refl, subst, arith, length, All, Contains}, lemmas.List.{length-map}}
 use Rattle.rm_base.specs.declared.block.Row.{Row}
-use Rattle.rm_catalog.specs.declared.record.Record.{Record}
-use Rattle.rm_catalog.specs.Trees.{nodes}
+use Rattle.rm_catalog.specs.{Trees.{nodes}, declared.record.Record.{Record}}
 use Rattle.rm_evidence.specs.Known.{FitsPiece}
-use Rattle.rm_history.specs.declared.tree.Incarnation.{Incarnation}
-use Rattle.rm_history.specs.Tree.{IsThere, IsTree, end_of, reset_of}
-use Rattle.rm_merge.specs.Merge.{Meets, greater, merged, row_at}
-use Rattle.rm_merge.proofs.Reaching.{merged_high}
-use Rattle.rm_piece.specs.declared.piece.Piece.{Piece}
-use Rattle.rm_piece.specs.Valid.{IsPiece}
-use Rattle.rm_backup.specs.Level1s.{IsNext, IsReached, next, start}
-use Rattle.rm_backup.proofs.Chained.{reached_valid}
+use Rattle.rm_history.specs.{Tree.{IsThere, IsTree, end_of, reset_of}, declared.tree.Incarnation.{Incarnation}}
+use Rattle.rm_merge.{specs.Merge.{Meets, greater, merged, row_at}, proofs.Reaching.{merged_high}}
+use Rattle.rm_piece.specs.{Valid.{IsPiece}, declared.piece.Piece.{Piece}}
+use Rattle.rm_backup.{specs.Level1s.{IsNext, IsReached, next, start}, proofs.Chained.{reached_valid}}
 use Rattle.rm_machine.proofs.Parents.{within-end}
 
 -- a level 1 that fits the tree, and lies up to the end of its incarnation

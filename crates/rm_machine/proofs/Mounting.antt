@@ -1,25 +1,14 @@
 -- SHUTDOWN and STARTUP: the mode changes, and the database stays sound.
-use Rattle.std.proofs.Common.{◌≡◌, ◌<◌, ◌+◌, ◌∙◌, ◌&&◌, ℕ, zero, suc, List, [], ◌∷◌, Option, Some, None, Bool, true, false, cond, is_none, refl, ap, sym, subst, arith, length, All, get_or, slice_get, slice_index_or}
 use Rattle.std.specs.Option.{option_map}
-use Rattle.std.proofs.lemmas.Bool.{false≢true}
-use Rattle.std.proofs.lemmas.List.{length-map}
-use Rattle.std.proofs.lemmas.List.Elements.{Contains-get_or}
+use Rattle.std.proofs.Common.{◌≡◌, ◌<◌, ◌+◌, ◌∙◌, ◌&&◌, ℕ, zero, suc, List, [], ◌∷◌, Option, Some, None, Bool, true, false, cond, is_none, refl, ap, sym, subst, arith, length, All, get_or, slice_get, slice_index_or}
+use Rattle.std.proofs.lemmas.{Bool.{false≢true}, List.{length-map, Elements.{Contains-get_or}}}
 use Rattle.rm_blocks.specs.File.{File, standing}
-use Rattle.rm_base.proofs.Slots.{get-index, get-mapped}
-use Rattle.rm_history.specs.declared.world.Datafile.{Datafile}
-use Rattle.rm_history.specs.declared.world.World.{World}
-use Rattle.rm_history.specs.World.{exists}
-use Rattle.rm_history.proofs.Highs.{high-above}
-use Rattle.rm_machine.specs.Damage.{without_damaged}
-use Rattle.rm_machine.specs.Mount.{as_mounted, first_lost, mount_point, mounted}
-use Rattle.rm_machine.specs.Sound.{IsPlaced, IsPoint, IsSound, StandsAt}
-use Rattle.rm_machine.specs.declared.state.State.{State}
-use Rattle.rm_machine.specs.State.{world, current_of, now_of, counted}
-use Rattle.rm_base.proofs.Conditions.{given-where, unless}
-use Rattle.rm_machine.proofs.Places.{counted-closed, counted-open, placed-mapped}
-use Rattle.rm_machine.proofs.Damaged.{damaged-none}
-use Rattle.rm_machine.proofs.Tracked.{tracked-none}
-use Rattle.rm_machine.proofs.Undamaged.{sound-undamaged}
+use Rattle.rm_base.proofs.{Slots.{get-index, get-mapped}, Conditions.{given-where, unless}}
+use Rattle.rm_history.{specs.{World.{exists}, declared.world.{Datafile.{Datafile}, World.{World}}}, proofs.Highs.{high-above}}
+use Rattle.rm_machine.specs.{Damage.{without_damaged}, Mount.{as_mounted, first_lost, mount_point, mounted}}
+use Rattle.rm_machine.specs.{Sound.{IsPlaced, IsPoint, IsSound, StandsAt}, State.{world, current_of, now_of, counted}}
+use Rattle.rm_machine.{specs.declared.state.State.{State}, proofs.Places.{counted-closed, counted-open, placed-mapped}}
+use Rattle.rm_machine.proofs.{Damaged.{damaged-none}, Tracked.{tracked-none}, Undamaged.{sound-undamaged}}
 
 in-place : (o : Option File) (b : Bool) → b ≡ true → (b && is_none o) ≡ false → (x : File) × (o ≡ Some x)
 in-place (Some x) b here is = (x, refl)

@@ -1,12 +1,8 @@
 -- A log is recorded: one record more.
 use Rattle.std.proofs.Common.{◌≡◌, ◌+◌, [], ◌∷◌, arith, length, length-append}
 use Rattle.rm_catalog.specs.declared.record.LogEntry.{LogEntry}
-use Rattle.rm_catalog_typed.specs.Ledger.{ledger_records}
-use Rattle.rm_catalog_typed.specs.Changes.{with_new_log}
-use Rattle.rm_catalog_typed.proofs.Fitted.{many}
-use Rattle.rm_machine.specs.declared.state.Instance.{Instance}
-use Rattle.rm_machine.specs.declared.state.State.{State}
-use Rattle.rm_machine.specs.State.{ledger}
+use Rattle.rm_catalog_typed.{specs.{Ledger.{ledger_records}, Changes.{with_new_log}}, proofs.Fitted.{many}}
+use Rattle.rm_machine.specs.{State.{ledger}, declared.state.{Instance.{Instance}, State.{State}}}
 
 -- the database with the record of a log more, for which an id was drawn, and with what runs then
 abbrev pub logged : State → Instance → LogEntry → State

@@ -1,8 +1,7 @@
 -- Datafiles have the numbers of their places.
 use Rattle.std.proofs.Common.{◌+◌, ℕ, suc, List, ◌∷◌, Option, arith}
 use Rattle.rm_blocks.specs.File.{File}
-use Rattle.rm_machine.specs.declared.state.State.{State}
-use Rattle.rm_machine.proofs.Following.{AreFrom, GoesAlong}
+use Rattle.rm_machine.{specs.declared.state.State.{State}, proofs.Following.{AreFrom, GoesAlong}}
 
 pub from-next : (n : ℕ) (o : Option File) (place : List (Option File)) → AreFrom n (o ∷ place) → AreFrom (n + 1) place
 from-next n o place are k x is = let e = are (suc k) x is in omega (arith, e)

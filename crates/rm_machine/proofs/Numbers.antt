@@ -1,17 +1,11 @@
 -- The datafiles of a database, by their numbers.
-use Rattle.std.proofs.Common.{◌≡◌, ◌<◌, ◌≤◌, ◌+◌, ◌-◌, ◌∙◌, ◌==◌, inl, inr, ℕ, Option, Some, None, true, false, cond, eq-eqb, ap, sym, arith, slice_get}
 use Rattle.std.specs.Option.{option_map_or}
-use Rattle.std.proofs.lemmas.Bool.{cases_Bool, ne_eqb}
-use Rattle.std.proofs.lemmas.Option.{slice_get_within}
+use Rattle.std.proofs.Common.{◌≡◌, ◌<◌, ◌≤◌, ◌+◌, ◌-◌, ◌∙◌, ◌==◌, inl, inr, ℕ, Option, Some, None, true, false, cond, eq-eqb, ap, sym, arith, slice_get}
+use Rattle.std.proofs.lemmas.{Bool.{cases_Bool, ne_eqb}, Option.{slice_get_within}}
 use Rattle.rm_base.proofs.Slots.{all-get}
-use Rattle.rm_history.specs.declared.world.Datafile.{Datafile}
-use Rattle.rm_history.specs.declared.world.World.{World}
-use Rattle.rm_history.specs.World.{blocks_of, file_of}
-use Rattle.rm_history.proofs.Worlds.{file-there}
+use Rattle.rm_history.{specs.{World.{blocks_of, file_of}, declared.world.{Datafile.{Datafile}, World.{World}}}, proofs.Worlds.{file-there}}
 use Rattle.rm_catalog_typed.specs.LedgerFacts.{IsCreated}
-use Rattle.rm_machine.specs.Sound.{IsSound}
-use Rattle.rm_machine.specs.declared.state.State.{State}
-use Rattle.rm_machine.specs.State.{ledger, tree, world}
+use Rattle.rm_machine.specs.{Sound.{IsSound}, State.{ledger, tree, world}, declared.state.State.{State}}
 
 -- the datafile at a place of the list has the next number
 pub file-at : (w : World) (k : ℕ) (d : Datafile) → slice_get w.files k ≡ Some d → file_of w (1 + k) ≡ Some d

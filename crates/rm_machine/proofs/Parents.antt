@@ -1,36 +1,21 @@
 -- Where a level 1 begins: at the checkpoint of a record that holds on the current path, and so up to now.
+use Rattle.std.specs.{List.{flat_map}, Option.{option_map_or}}
 use Rattle.std.proofs.Common.{◌≡◌, ◌≤◌, ◌∙◌, inl, inr, ℕ, List, [], ◌∷◌, Option, Some, None, Bool, true, false, ap, sym, subst, arith, MatchBool, nat_le, option_map, Contains}
-use Rattle.std.specs.List.{flat_map}
-use Rattle.std.specs.Option.{option_map_or}
-use Rattle.std.proofs.lemmas.Bool.{and_parts, cases_lt}
-use Rattle.std.proofs.lemmas.List.Elements.{All-contains, Contains-append_cases}
-use Rattle.rm_base.proofs.Lists.{map_from}
-use Rattle.rm_base.proofs.Members.{behind, first-or-rest, in-front, none-in}
-use Rattle.rm_backup.specs.Parents.{HasCopy, IsLast, among}
-use Rattle.rm_backup.specs.Records.{IsOnPath}
-use Rattle.rm_catalog.specs.declared.record.PieceEntry.{PieceEntry}
-use Rattle.rm_catalog.specs.declared.record.Record.{Record}
-use Rattle.rm_catalog.specs.declared.record.Record.TheVariants as kind
-use Rattle.rm_catalog.specs.declared.record.SetEntry.{SetEntry}
-use Rattle.rm_catalog.specs.declared.record.SetPart.{SetPart}
-use Rattle.rm_catalog.specs.Keys.{backups_in, part_piece, piece_in}
+use Rattle.std.proofs.lemmas.{Bool.{and_parts, cases_lt}, List.Elements.{All-contains, Contains-append_cases}}
+use Rattle.rm_base.proofs.{Lists.{map_from}, Members.{behind, first-or-rest, in-front, none-in}}
+use Rattle.rm_backup.specs.{Parents.{HasCopy, IsLast, among}, Records.{IsOnPath}}
+use Rattle.rm_catalog.specs.{Keys.{backups_in, part_piece, piece_in}, declared.record.{PieceEntry.{PieceEntry}, Record.{Record}}}
+use Rattle.rm_catalog.specs.declared.record.{Record.TheVariants as kind, SetEntry.{SetEntry}, SetPart.{SetPart}}
 use Rattle.rm_lang_statement.specs.declared.command.BackupForm.{BackupForm}
-use Rattle.rm_history.specs.declared.tree.Incarnation.{Incarnation}
 use Rattle.rm_history.specs.Tree.{IsThere, IsTree, end_of, is_on_path, is_within, reset_of, segment_end}
-use Rattle.rm_history.proofs.Owners.{owner-below, owner-here}
-use Rattle.rm_history.proofs.Paths.{is_on_path-member, path-below}
-use Rattle.rm_history.proofs.Segments.{is_within_alike}
-use Rattle.rm_catalog_typed.specs.LedgerFacts.{IsPieceEntry, IsSetEntry, IsSetPart}
-use Rattle.rm_evidence.proofs.DatabaseWorlds.{is-tree}
-use Rattle.rm_catalog_typed.specs.TypedCatalog.{records_of}
-use Rattle.rm_catalog_typed.proofs.ByKind.{is-piece, made}
-use Rattle.rm_catalog_typed.proofs.Members.{piece-in, set-in}
-use Rattle.rm_catalog_typed.proofs.Valid.{typed_catalog-valid}
-use Rattle.rm_machine.specs.Backup.{BeginsAt, HasParent, is_level1}
-use Rattle.rm_machine.specs.Sound.{IsSound}
-use Rattle.rm_machine.specs.declared.state.State.{State}
-use Rattle.rm_machine.specs.State.{ledger, tree, current_of, now_of}
+use Rattle.rm_history.{specs.declared.tree.Incarnation.{Incarnation}, proofs.Owners.{owner-below, owner-here}}
+use Rattle.rm_history.proofs.{Paths.{is_on_path-member, path-below}, Segments.{is_within_alike}}
+use Rattle.rm_catalog_typed.specs.{LedgerFacts.{IsPieceEntry, IsSetEntry, IsSetPart}, TypedCatalog.{records_of}}
+use Rattle.rm_catalog_typed.proofs.{ByKind.{is-piece, made}, Members.{piece-in, set-in}, Valid.{typed_catalog-valid}}
 use Rattle.rm_catalog_typed.proofs.Records.{database-told, tree-told}
+use Rattle.rm_evidence.proofs.DatabaseWorlds.{is-tree}
+use Rattle.rm_machine.specs.{Backup.{BeginsAt, HasParent, is_level1}, Sound.{IsSound}, State.{ledger, tree, current_of, now_of}}
+use Rattle.rm_machine.specs.declared.state.State.{State}
 
 -- what holds on the path of an incarnation lies up to its end: where the incarnation begins, each path but its own has another owner
 pub within-end : (ns : List Incarnation) → IsTree ns → (i j high : ℕ) → IsThere ns i → reset_of ns i ≤ end_of ns i → high ≤ end_of ns j → is_within ns j i high ≡ true → high ≤ end_of ns i

@@ -1,15 +1,9 @@
 -- A piece or a set is recorded under the next id.
 use Rattle.std.proofs.Common.{◌≡◌, ◌+◌, [], ◌∷◌, arith, length, length-append}
-use Rattle.rm_catalog.specs.declared.record.PieceEntry.{PieceEntry}
-use Rattle.rm_catalog.specs.declared.record.SetEntry.{SetEntry}
-use Rattle.rm_catalog_typed.specs.Ledger.{ledger_records}
-use Rattle.rm_catalog_typed.specs.Changes.{with_new_piece, with_new_set}
-use Rattle.rm_catalog_typed.specs.Fitting.{FitsNewPiece, FitsNewSet}
+use Rattle.rm_catalog.specs.declared.record.{PieceEntry.{PieceEntry}, SetEntry.{SetEntry}}
+use Rattle.rm_catalog_typed.specs.{Ledger.{ledger_records}, Changes.{with_new_piece, with_new_set}, Fitting.{FitsNewPiece, FitsNewSet}}
 use Rattle.rm_catalog_typed.proofs.Fitted.{many, new_piece_fits, new_set_fits}
-use Rattle.rm_machine.specs.Sound.{IsSound}
-use Rattle.rm_machine.specs.declared.state.State.{State}
-use Rattle.rm_machine.specs.State.{ledger}
-use Rattle.rm_machine.proofs.Later.{sound-with}
+use Rattle.rm_machine.{specs.{Sound.{IsSound}, State.{ledger}, declared.state.State.{State}}, proofs.Later.{sound-with}}
 
 -- the state with this record more, for which an id was drawn
 abbrev pub with_recorded : State → PieceEntry → State

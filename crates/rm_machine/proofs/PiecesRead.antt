@@ -1,42 +1,20 @@
 -- The piece of what was read of a datafile is valid, and true where the rows agree with the history.
 use Rattle.std.proofs.Common.{◌≡◌, ◌⊎◌, ◌<◌, ◌≤◌, ◌+◌, ◌-◌, ◌∙◌, ◌==◌, ℕ, List, Option, Some, None, Bool, true, false, cond, refl, sym, subst, arith, length, All, AllPairs, Contains, is_none, nat_le, nat_lt, slice_get, slice_index_or, unwrap_or}
-use Rattle.std.proofs.lemmas.Bool.{and_parts, eqb-true}
-use Rattle.std.proofs.lemmas.List.Elements.{All-contains}
-use Rattle.std.proofs.lemmas.List.Sums.{count_by-le-length, length-filter}
+use Rattle.std.proofs.lemmas.{Bool.{and_parts, eqb-true}, List.{Elements.{All-contains}, Sums.{count_by-le-length, length-filter}}}
 use Rattle.std.proofs.lemmas.Option.{slice_get_within}
-use Rattle.rm_base.specs.declared.block.Change.{Change}
-use Rattle.rm_base.specs.declared.block.Row.{Row}
-use Rattle.rm_base.specs.declared.kinds.Kind.{Kind}
-use Rattle.rm_base.specs.declared.kinds.Kind.TheVariants.{Full, Level0, Level1}
-use Rattle.rm_base.proofs.Lists.{filter_from}
-use Rattle.rm_base.proofs.Sealing.{length-sealed}
-use Rattle.rm_base.proofs.Slots.{all-get}
+use Rattle.rm_base.specs.declared.{block.{Change.{Change}, Row.{Row}}, kinds.Kind.{Kind, TheVariants.{Full, Level0, Level1}}}
+use Rattle.rm_base.proofs.{Lists.{filter_from}, Sealing.{length-sealed}, Slots.{all-get}}
 use Rattle.rm_catalog.specs.Objects.{FitsKind as FitsEntry, FitsRows, IsTag}
-use Rattle.rm_history.specs.Agrees.{BaseAgrees, IsBelow}
-use Rattle.rm_history.specs.Artefacts.{high_of}
-use Rattle.rm_history.specs.declared.world.Datafile.{Datafile}
-use Rattle.rm_history.specs.Tree.{owner}
-use Rattle.rm_history.specs.World.{blocks_of, exists}
-use Rattle.rm_history.proofs.Highs.{high-bound, high-least}
+use Rattle.rm_history.specs.{Agrees.{BaseAgrees, IsBelow}, Artefacts.{high_of}, Tree.{owner}, World.{blocks_of, exists}}
+use Rattle.rm_history.{specs.declared.world.Datafile.{Datafile}, proofs.Highs.{high-bound, high-least}}
 use Rattle.rm_catalog_typed.specs.LedgerFacts.{IsCreated, IsPieceEntry}
-use Rattle.rm_piece.specs.declared.piece.Piece.{Piece}
-use Rattle.rm_piece.specs.Artefacts as piece
-use Rattle.rm_piece.specs.Level1s.{IsRead}
-use Rattle.rm_piece.specs.Spelling.{body_of}
-use Rattle.rm_piece.specs.Valid.{FitsKind, IsBefore, IsPiece, IsRow}
-use Rattle.rm_piece.proofs.Bodies.{length-body}
-use Rattle.rm_piece.proofs.Fitting.{fits}
-use Rattle.rm_piece.proofs.Highs.{count_fits}
+use Rattle.rm_piece.specs.{Artefacts as piece, Level1s.{IsRead}, Spelling.{body_of}, Valid.{FitsKind, IsBefore, IsPiece, IsRow}}
+use Rattle.rm_piece.{specs.declared.piece.Piece.{Piece}, proofs.{Bodies.{length-body}, Fitting.{fits}, Highs.{count_fits}}}
 use Rattle.rm_piece.proofs.Picked.{picked_agrees, picked_valid}
 use Rattle.rm_lang_statement.specs.declared.command.BackupForm.{BackupForm}
-use Rattle.rm_machine.specs.MadePieces.{entry_for, piece_by}
-use Rattle.rm_machine.specs.Backup.{is_copy, kind_by, rows_from}
-use Rattle.rm_machine.specs.Effect.{a_piece}
-use Rattle.rm_machine.specs.Machine.{IsTrueArtefact, PieceAgrees}
-use Rattle.rm_machine.specs.Sound.{IsPlacedRow, IsSound}
-use Rattle.rm_machine.specs.declared.job.Job.{Job}
-use Rattle.rm_machine.specs.declared.state.State.{State}
-use Rattle.rm_machine.specs.State.{ledger, tree, world, current_of, now_of}
+use Rattle.rm_machine.specs.{MadePieces.{entry_for, piece_by}, Backup.{is_copy, kind_by, rows_from}, Effect.{a_piece}}
+use Rattle.rm_machine.specs.{Machine.{IsTrueArtefact, PieceAgrees}, Sound.{IsPlacedRow, IsSound}}
+use Rattle.rm_machine.specs.{State.{ledger, tree, world, current_of, now_of}, declared.{job.Job.{Job}, state.State.{State}}}
 use Rattle.rm_machine.proofs.Numbers.{blocks-at}
 
 -- a row that was read up to now

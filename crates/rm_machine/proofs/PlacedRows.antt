@@ -1,22 +1,13 @@
 -- The row in place of a block of a datafile of the current path that is not lost.
-use Rattle.std.proofs.Common.{◌≡◌, ◌<◌, ◌≤◌, ◌-◌, ◌∙◌, nat_le, false, inl, inr, ℕ, Option, Some, None, is_none, refl, ap, sym, arith, length, slice_get}
 use Rattle.std.specs.Option.{option_and_then, option_map_or}
-use Rattle.std.proofs.lemmas.Bool.{cases_Bool, leb-false}
-use Rattle.std.proofs.lemmas.Option.{slice_get_within}
-use Rattle.rm_base.specs.declared.block.Row.{Row}
-use Rattle.rm_base.proofs.Conditions.{not-none}
-use Rattle.rm_base.proofs.Slots.{all-get, get-index}
+use Rattle.std.proofs.Common.{◌≡◌, ◌<◌, ◌≤◌, ◌-◌, ◌∙◌, nat_le, false, inl, inr, ℕ, Option, Some, None, is_none, refl, ap, sym, arith, length, slice_get}
+use Rattle.std.proofs.lemmas.{Bool.{cases_Bool, leb-false}, Option.{slice_get_within}}
+use Rattle.rm_base.{specs.declared.block.Row.{Row}, proofs.{Conditions.{not-none}, Slots.{all-get, get-index}}}
 use Rattle.rm_blocks.specs.File.{File}
-use Rattle.rm_history.specs.declared.world.Datafile.{Datafile}
-use Rattle.rm_history.proofs.Worlds.{file-there}
-use Rattle.rm_catalog_typed.specs.LedgerFacts.{IsCreated}
-use Rattle.rm_catalog_typed.proofs.Lookups.{item-at}
-use Rattle.rm_machine.specs.Dump.{placed_row}
-use Rattle.rm_machine.specs.Sound.{IsSound}
-use Rattle.rm_machine.specs.declared.state.State.{State}
-use Rattle.rm_machine.specs.State.{counted, on_path, placed, tree, world}
-use Rattle.rm_machine.proofs.Places.{counted-closed, counted-open}
-use Rattle.rm_machine.proofs.Tracked.{on-path}
+use Rattle.rm_history.{specs.declared.world.Datafile.{Datafile}, proofs.Worlds.{file-there}}
+use Rattle.rm_catalog_typed.{specs.LedgerFacts.{IsCreated}, proofs.Lookups.{item-at}}
+use Rattle.rm_machine.specs.{Dump.{placed_row}, Sound.{IsSound}, State.{counted, on_path, placed, tree, world}}
+use Rattle.rm_machine.{specs.declared.state.State.{State}, proofs.{Places.{counted-closed, counted-open}, Tracked.{on-path}}}
 
 -- what is in place counts with its own rows
 rows-counted : (s : State) (x : File) → (counted s x).rows ≡ x.rows

@@ -1,15 +1,12 @@
 -- What is in place, and as what it counts.
-use Rattle.std.proofs.Common.{◌≡◌, ◌+◌, inl, inr, ℕ, zero, suc, List, [], ◌∷◌, Option, Some, None, true, false, cond, ap, subst, arith, map, slice_index_or}
 use Rattle.std.specs.Option.{option_map}
-use Rattle.std.proofs.lemmas.Option.{slice_get_within}
-use Rattle.std.proofs.lemmas.Bool.{cases_Bool}
+use Rattle.std.proofs.Common.{◌≡◌, ◌+◌, inl, inr, ℕ, zero, suc, List, [], ◌∷◌, Option, Some, None, true, false, cond, ap, subst, arith, map, slice_index_or}
+use Rattle.std.proofs.lemmas.{Option.{slice_get_within}, Bool.{cases_Bool}}
 use Rattle.rm_blocks.specs.File.{File, IsInOrder, standing}
 use Rattle.rm_history.specs.declared.world.Datafile.{Datafile}
 use Rattle.rm_catalog_typed.proofs.Lookups.{item-at}
 use Rattle.rm_base.proofs.Slots.{get-index, get-mapped, index-get}
-use Rattle.rm_machine.specs.Sound.{ArePlaced, IsPlaced}
-use Rattle.rm_machine.specs.declared.state.State.{State}
-use Rattle.rm_machine.specs.State.{current_of, now_of, counted}
+use Rattle.rm_machine.specs.{Sound.{ArePlaced, IsPlaced}, State.{current_of, now_of, counted}, declared.state.State.{State}}
 
 -- in an open database what is in place counts as of `now`
 pub counted-open : (s : State) (x : File) → s.instance.is_open ≡ true → counted s x ≡ standing x (current_of s) (now_of s)

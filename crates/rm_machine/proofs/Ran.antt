@@ -1,19 +1,9 @@
 -- What events of the running database left can be put back: writes that were asked for, beside calls that write nothing.
 use Rattle.std.proofs.Common.{◌≡◌, ◌≤◌, ◌++◌, ℕ, List, Result, arith, length, map}
-use Rattle.rm_channel.specs.Jobs.{Deed, wrote_of}
-use Rattle.rm_channel.specs.Made.{AreThese, deed}
-use Rattle.rm_channel.specs.declared.jobs.WriteJob.{WriteJob}
-use Rattle.rm_channel.proofs.Mine.{total-append}
-use Rattle.rm_live.specs.declared.history.Event.{Event}
-use Rattle.rm_live.specs.declared.history.LiveFault.{LiveFault}
-use Rattle.rm_live.specs.History.{IsLegal, fold_of}
-use Rattle.rm_live.specs.Ruled.{total}
-use Rattle.rm_live.specs.Parts.{Parts}
-use Rattle.rm_machine.specs.Events.{opening}
-use Rattle.rm_machine.specs.Running.{CanFollow, HasRun, IsTakenOut, count_writes}
-use Rattle.rm_machine.specs.Sound.{IsSound}
-use Rattle.rm_machine.specs.declared.state.State.{State}
-use Rattle.rm_machine.proofs.Ended.{is_once, once-events, once-wrote_of}
+use Rattle.rm_channel.{specs.{Jobs.{Deed, wrote_of}, Made.{AreThese, deed}, declared.jobs.WriteJob.{WriteJob}}, proofs.Mine.{total-append}}
+use Rattle.rm_live.specs.{History.{IsLegal, fold_of}, Ruled.{total}, Parts.{Parts}, declared.history.{Event.{Event}, LiveFault.{LiveFault}}}
+use Rattle.rm_machine.specs.{Events.{opening}, Running.{CanFollow, HasRun, IsTakenOut, count_writes}, Sound.{IsSound}}
+use Rattle.rm_machine.{specs.declared.state.State.{State}, proofs.Ended.{is_once, once-events, once-wrote_of}}
 
 module _ (s : State) (writers : List (List WriteJob)) (sound : IsSound s) (follow : CanFollow s writers) (others : List Deed) (quiet : total is_once others ≡ 0) (answers : List (List (Result ℕ LiveFault)))
     (events : List Event) (these : AreThese (others ++ wrote_of 1 writers answers) (map deed events)) where

@@ -1,9 +1,7 @@
 -- Which blocks a backup reads of a datafile: they ascend, and are exactly those that are marked, or else all.
-use Rattle.std.proofs.Common.{◌≡◌, ◌<◌, ◌≤◌, ◌+◌, ◌∙◌, inl, inr, nat_lt, ℕ, zero, suc, List, [], ◌∷◌, Option, Some, None, Bool, true, false, cond, unwrap_or, refl, ap, sym, subst, arith, get_or, length, replicate, All, Contains}
 use Rattle.std.specs.Option.{option_and_then, option_map_or}
-use Rattle.std.proofs.lemmas.List.{length-replicate}
-use Rattle.std.proofs.lemmas.List.Elements.{All-head, All-tail}
-use Rattle.std.proofs.lemmas.Simd.{length-zip2}
+use Rattle.std.proofs.Common.{◌≡◌, ◌<◌, ◌≤◌, ◌+◌, ◌∙◌, inl, inr, nat_lt, ℕ, zero, suc, List, [], ◌∷◌, Option, Some, None, Bool, true, false, cond, unwrap_or, refl, ap, sym, subst, arith, get_or, length, replicate, All, Contains}
+use Rattle.std.proofs.lemmas.{List.{length-replicate, Elements.{All-head, All-tail}}, Simd.{length-zip2}}
 use Rattle.rm_base.proofs.Members.{behind, first-or-rest, in-front, none-in}
 use Rattle.rm_live.specs.Ruled.{upto}
 use Rattle.rm_track.specs.Bitmaps.{Bitmap, Tracked, candidates_at, candidates_of, joined, oldest, tracked_at, unmarked}

@@ -1,22 +1,11 @@
 -- Pieces and sets are recorded, one after another.
-use Rattle.std.proofs.Common.{◌≡◌, ◌∙◌, ◌+◌, ℕ, List, ◌∷◌, refl, arith, length}
-use Rattle.std.proofs.lemmas.List.Elements.{All-head, All-tail, All-weaker}
-use Rattle.rm_base.specs.declared.kinds.Kind.{Kind}
-use Rattle.rm_base.specs.declared.kinds.Kind.TheVariants.{Full, Level0, Level1, Place}
-use Rattle.rm_catalog.specs.declared.record.PieceEntry.{PieceEntry}
-use Rattle.rm_catalog.specs.declared.record.SetEntry.{SetEntry}
-use Rattle.rm_catalog.specs.declared.record.SetPart.{SetPart}
-use Rattle.rm_catalog.specs.Objects.{FitsKind}
-use Rattle.rm_catalog_typed.specs.Ledger.{ledger_records}
-use Rattle.rm_catalog_typed.specs.LedgerFacts.{IsSetPart}
-use Rattle.rm_catalog_typed.specs.Fitting.{FitsNewPiece, FitsNewSet}
+use Rattle.std.proofs.{Common.{◌≡◌, ◌∙◌, ◌+◌, ℕ, List, ◌∷◌, refl, arith, length}, lemmas.List.Elements.{All-head, All-tail, All-weaker}}
+use Rattle.rm_base.specs.declared.kinds.Kind.{Kind, TheVariants.{Full, Level0, Level1, Place}}
+use Rattle.rm_catalog.specs.{Objects.{FitsKind}, declared.record.{PieceEntry.{PieceEntry}, SetEntry.{SetEntry}, SetPart.{SetPart}}}
+use Rattle.rm_catalog_typed.specs.{Ledger.{ledger_records}, LedgerFacts.{IsSetPart}, Fitting.{FitsNewPiece, FitsNewSet}}
 use Rattle.rm_lang_statement.specs.declared.command.BackupForm.{BackupForm}
-use Rattle.rm_machine.specs.MadeObjects.{CanRecord, IsRecordable, Packed, after_object, alone, in_set}
-use Rattle.rm_machine.specs.MadePieces.{entry_for}
-use Rattle.rm_machine.specs.MadeSets.{set_entry_for, set_of}
-use Rattle.rm_machine.specs.Sound.{IsSound}
-use Rattle.rm_machine.specs.declared.state.State.{State}
-use Rattle.rm_machine.specs.State.{ledger, tree}
+use Rattle.rm_machine.specs.{MadeObjects.{CanRecord, IsRecordable, Packed, after_object, alone, in_set}, MadePieces.{entry_for}}
+use Rattle.rm_machine.specs.{MadeSets.{set_entry_for, set_of}, Sound.{IsSound}, State.{ledger, tree}, declared.state.State.{State}}
 use Rattle.rm_machine.proofs.Pieces.{count-recorded, count-recorded_set, sound-recorded, sound-recorded_set}
 
 -- what fits a kind goes by a few fields

@@ -1,44 +1,24 @@
 -- A database that was recovered by what is at hand is sound.
-use Rattle.std.proofs.Common.{◌≡◌, ◌<◌, ◌≤◌, ◌+◌, ◌∙◌, ◌==◌, ◌||◌, ◌⊎◌, nat_lt, inl, inr, ℕ, suc, List, Option, Some, None, Bool, true, false, cond, refl, sym, subst, arith, map, slice_get, Contains}
 use Rattle.std.specs.Option.{option_map}
-use Rattle.std.proofs.lemmas.Bool.{and_parts, eqb-true, ltb-true}
-use Rattle.std.proofs.lemmas.Bool.Decides.{nat_tests}
-use Rattle.std.proofs.lemmas.List.Elements.{All-contains}
+use Rattle.std.proofs.Common.{◌≡◌, ◌<◌, ◌≤◌, ◌+◌, ◌∙◌, ◌==◌, ◌||◌, ◌⊎◌, nat_lt, inl, inr, ℕ, suc, List, Option, Some, None, Bool, true, false, cond, refl, sym, subst, arith, map, slice_get, Contains}
+use Rattle.std.proofs.lemmas.{Bool.{and_parts, eqb-true, ltb-true, Decides.{nat_tests}}, List.Elements.{All-contains}}
 use Rattle.std.proofs.lemmas.Option.{slice_get_within}
-use Rattle.rm_base.specs.declared.block.Row.{Row}
-use Rattle.rm_base.specs.declared.refusal.Refusal.TheVariants.{Rm06}
-use Rattle.rm_base.specs.Content.{zero_block}
-use Rattle.rm_base.proofs.Lists.{map_to}
-use Rattle.rm_base.proofs.Slots.{all-get}
+use Rattle.rm_base.{specs.{Content.{zero_block}, declared.{block.Row.{Row}, refusal.Refusal.TheVariants.{Rm06}}}, proofs.Lists.{map_to}}
+use Rattle.rm_base.proofs.{Slots.{all-get}, Conditions.{unless}}
 use Rattle.rm_blocks.specs.File.{File}
 use Rattle.rm_lang_statement.specs.declared.command.Until.{Until}
-use Rattle.rm_evidence.specs.declared.evidence.Evidence.{Evidence}
-use Rattle.rm_evidence.specs.Known.{FitsTree, known_of}
-use Rattle.rm_history.specs.declared.world.Datafile.{Datafile}
-use Rattle.rm_history.specs.declared.tree.Incarnation.{Incarnation}
-use Rattle.rm_history.specs.Artefacts.{high_of}
-use Rattle.rm_history.specs.Tree.{IsThere, owner, reset_of, end_of}
-use Rattle.rm_history.specs.World.{exists}
+use Rattle.rm_evidence.{specs.{Known.{FitsTree, known_of}, declared.evidence.Evidence.{Evidence}}, proofs.Contents.{seen-content}}
+use Rattle.rm_history.specs.{Evidence as known, Artefacts.{high_of}, Tree.{IsThere, owner, reset_of, end_of}, World.{exists}}
+use Rattle.rm_history.specs.{Known.{Seen, by_creation}, declared.{world.Datafile.{Datafile}, tree.Incarnation.{Incarnation}}}
 use Rattle.rm_history.proofs.Highs.{high-bound}
-use Rattle.rm_history.specs.Evidence as known
-use Rattle.rm_history.specs.Known.{Seen, by_creation}
 use Rattle.rm_catalog_typed.specs.LedgerFacts.{IsCreated}
 use Rattle.rm_plan.specs.Plan.{IsFileTarget}
 use Rattle.rm_apply.specs.Told.{AreFilesAt, IsTold}
-use Rattle.rm_machine.specs.Marks.{ids_refusal}
-use Rattle.rm_machine.specs.Recover.{recovered, recover_refusal, recover_target, target_refusal}
-use Rattle.rm_machine.specs.Until.{or_else}
-use Rattle.rm_machine.proofs.Untils.{until-none}
-use Rattle.rm_machine.specs.Recovery.{put_over, range_refusal}
-use Rattle.rm_machine.specs.Sound.{IsPlaced, IsPlacedRow, IsPoint, IsSound}
-use Rattle.rm_machine.specs.declared.state.State.{State}
-use Rattle.rm_machine.specs.State.{ledger, tree, world, current_of, now_of}
-use Rattle.rm_evidence.proofs.Contents.{seen-content}
-use Rattle.rm_machine.proofs.Exchanging.{sound-exchanged}
-use Rattle.rm_machine.proofs.Numbers.{blocks-at, file-at, file-place}
-use Rattle.rm_machine.proofs.Placing.{number, over-at, over-cases, over-length}
-use Rattle.rm_machine.proofs.Standing.{at-place, each-get}
-use Rattle.rm_base.proofs.Conditions.{unless}
+use Rattle.rm_machine.specs.{Marks.{ids_refusal}, Recover.{recovered, recover_refusal, recover_target, target_refusal}, Until.{or_else}}
+use Rattle.rm_machine.specs.{Recovery.{put_over, range_refusal}, Sound.{IsPlaced, IsPlacedRow, IsPoint, IsSound}}
+use Rattle.rm_machine.{specs.{State.{ledger, tree, world, current_of, now_of}, declared.state.State.{State}}, proofs.Untils.{until-none}}
+use Rattle.rm_machine.proofs.{Exchanging.{sound-exchanged}, Numbers.{blocks-at, file-at, file-place}}
+use Rattle.rm_machine.proofs.{Placing.{number, over-at, over-cases, over-length}, Standing.{at-place, each-get}}
 
 -- why it was not refused
 pub record CanRecover (s : State) (at : ℕ) : Type 0 where

@@ -1,18 +1,13 @@
 -- Why a BACKUP is refused, write by write and thread by thread.
-use Rattle.std.proofs.Common.{◌≡◌, ◌<◌, ◌≤◌, ◌+◌, ◌-◌, ◌∙◌, ◌||◌, ℕ, suc, List, [], ◌∷◌, Option, Some, None, Bool, true, false, cond, is_none, Bor, ap, sym, arith, drop, drop-cons, get_or, length, All}
 use Rattle.std.specs.Option.{is_some, option_copied, option_map_or}
+use Rattle.std.proofs.Common.{◌≡◌, ◌<◌, ◌≤◌, ◌+◌, ◌-◌, ◌∙◌, ◌||◌, ℕ, suc, List, [], ◌∷◌, Option, Some, None, Bool, true, false, cond, is_none, Bor, ap, sym, arith, drop, drop-cons, get_or, length, All}
 use Rattle.std.proofs.lemmas.List.Elements.{All-get_or, All-head, All-tail}
 use Rattle.rm_base.specs.declared.refusal.Absent.{Absent}
 use Rattle.rm_blocks.specs.File.{File}
 use Rattle.rm_lang_statement.specs.declared.command.WriteForm.{WriteForm}
-use Rattle.rm_machine.specs.Asked.{FitsNumbers}
-use Rattle.rm_machine.specs.Damage.{has_block}
-use Rattle.rm_machine.specs.Sound.{IsSound}
-use Rattle.rm_machine.specs.declared.state.State.{State}
-use Rattle.rm_machine.specs.State.{placed}
+use Rattle.rm_machine.specs.{Asked.{FitsNumbers}, Damage.{has_block}, Sound.{IsSound}, State.{placed}}
 use Rattle.rm_machine.specs.BackupRefusal.{absent_in, absent_of, damaged_write, lacks_log, lacks_logs, lost_of}
-use Rattle.rm_machine.proofs.BackupAccepted.{IsNamed, named-all}
-use Rattle.rm_machine.proofs.Numbers.{numbered}
+use Rattle.rm_machine.{specs.declared.state.State.{State}, proofs.{BackupAccepted.{IsNamed, named-all}, Numbers.{numbered}}}
 
 -- the writes from place k on
 writes-at : (ws : List WriteForm) (k : ℕ) (d : WriteForm) → k < length ws → drop k ws ≡ get_or ws k d ∷ drop (k + 1) ws

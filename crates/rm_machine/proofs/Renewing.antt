@@ -1,36 +1,18 @@
 -- RECOVER COPY: a changed copy has a record of its own, the old record goes, and there is room for the rest.
-use Rattle.std.proofs.Common.{◌≡◌, ◌≢◌, ◌<◌, ◌≤◌, ◌+◌, ◌∙◌, cond, ℕ, List, [], ◌∷◌, Option, Some, None, Bool, true, false, refl, rules, ap, sym, subst, arith, get_or, is_some, length, All, AllPairs, Contains}
 use Rattle.std.specs.Option.{option_map_or}
-use Rattle.std.proofs.lemmas.List.{get_or-map, length-map}
-use Rattle.std.proofs.lemmas.List.Edits.{length-remove}
+use Rattle.std.proofs.Common.{◌≡◌, ◌≢◌, ◌<◌, ◌≤◌, ◌+◌, ◌∙◌, cond, ℕ, List, [], ◌∷◌, Option, Some, None, Bool, true, false, refl, rules, ap, sym, subst, arith, get_or, is_some, length, All, AllPairs, Contains}
+use Rattle.std.proofs.lemmas.List.{get_or-map, length-map, Edits.{length-remove}}
 use Rattle.std.proofs.lemmas.List.Elements.{All-contains, All-head, All-tail, Contains-append_left, Contains-get_or}
-use Rattle.rm_base.specs.declared.kinds.Kind.{Kind}
-use Rattle.rm_base.specs.declared.kinds.Kind.TheVariants.{Full, Level0, Level1, Place}
-use Rattle.rm_base.proofs.Keyed.{same_item}
-use Rattle.rm_backup.specs.Records.{pieces}
-use Rattle.rm_backup.specs.declared.renewing.Renewed.{Renewed}
-use Rattle.rm_catalog.specs.declared.record.PieceEntry.{PieceEntry}
-use Rattle.rm_catalog.specs.Objects.{FitsKind}
-use Rattle.rm_evidence.specs.declared.evidence.Evidence.{Evidence}
-use Rattle.rm_evidence.proofs.Extending.{pairs-head, pairs-tail}
-use Rattle.rm_evidence.specs.Objects.{piece_entry}
-use Rattle.rm_catalog_typed.specs.LedgerFacts.{IsPieceEntry}
+use Rattle.rm_base.{specs.declared.kinds.Kind.{Kind, TheVariants.{Full, Level0, Level1, Place}}, proofs.Keyed.{same_item}}
+use Rattle.rm_backup.specs.{Records.{pieces}, declared.renewing.Renewed.{Renewed}}
+use Rattle.rm_catalog.specs.{Objects.{FitsKind}, declared.record.PieceEntry.{PieceEntry}}
+use Rattle.rm_evidence.{specs.{Objects.{piece_entry}, declared.evidence.Evidence.{Evidence}}, proofs.Extending.{pairs-head, pairs-tail}}
+use Rattle.rm_catalog_typed.specs.{LedgerFacts.{IsPieceEntry}, Changes.{with_new_piece, without_one, without_piece}, Fitting.{FitsNewPiece}}
+use Rattle.rm_catalog_typed.{specs.TypedCatalog.{records_of}, proofs.{Fitted.{many}, Records.{pieces-told}, Splits.{place-of-one}}}
 use Rattle.rm_piece.specs.declared.piece.Piece.{Piece}
-use Rattle.rm_catalog_typed.specs.Changes.{with_new_piece, without_one, without_piece}
-use Rattle.rm_catalog_typed.specs.Fitting.{FitsNewPiece}
-use Rattle.rm_catalog_typed.specs.TypedCatalog.{records_of}
-use Rattle.rm_catalog_typed.proofs.Fitted.{many}
-use Rattle.rm_catalog_typed.proofs.Records.{pieces-told}
-use Rattle.rm_catalog_typed.proofs.Splits.{place-of-one}
-use Rattle.rm_machine.specs.RecoverCopy.{AreRenewed, after_copy, changed, is_kept, renewed_entry, renewed_refusal}
-use Rattle.rm_machine.specs.Sound.{IsSound}
-use Rattle.rm_machine.specs.Upkeep.{with_catalog}
-use Rattle.rm_machine.specs.declared.state.State.{State}
-use Rattle.rm_machine.specs.State.{ledger, tree}
-use Rattle.rm_machine.proofs.Deleting.{stays-one}
-use Rattle.rm_machine.proofs.Entries.{GoesOn, piece-out}
-use Rattle.rm_machine.proofs.Pieces.{sound-recorded, with_recorded}
-use Rattle.rm_machine.proofs.Standing.{each-in}
+use Rattle.rm_machine.specs.{RecoverCopy.{AreRenewed, after_copy, changed, is_kept, renewed_entry, renewed_refusal}, Sound.{IsSound}}
+use Rattle.rm_machine.{specs.{Upkeep.{with_catalog}, State.{ledger, tree}, declared.state.State.{State}}, proofs.Deleting.{stays-one}}
+use Rattle.rm_machine.proofs.{Entries.{GoesOn, piece-out}, Pieces.{sound-recorded, with_recorded}, Standing.{each-in}}
 
 -- What copies that take over level 1s have
 

@@ -1,24 +1,15 @@
 -- A BLOCKRECOVER that was not refused.
-use Rattle.std.proofs.Common.{◌≡◌, ◌≤◌, ◌+◌, None, true, nat_lt, arith, length, rules, All}
-use Rattle.std.specs.Option.{option_and_then}
+use Rattle.std.{specs.Option.{option_and_then}, proofs.Common.{◌≡◌, ◌≤◌, ◌+◌, None, true, nat_lt, arith, length, rules, All}}
 use Rattle.std.proofs.lemmas.Bool.{ltb-false}
-use Rattle.rm_base.specs.Numbers.{last_scn}
-use Rattle.rm_base.specs.declared.refusal.Refusal.TheVariants.{Rm05, Rm09, Rm17}
+use Rattle.rm_base.specs.{Numbers.{last_scn}, declared.refusal.Refusal.TheVariants.{Rm05, Rm09, Rm17}}
 use Rattle.rm_base.proofs.Conditions.{only-where, unless}
 use Rattle.rm_catalog_typed.specs.Ledger.{ledger_records}
 use Rattle.rm_redo.specs.Online.{thread_records as log_records}
-use Rattle.rm_lang_statement.specs.declared.command.RepairForm.{RepairForm}
-use Rattle.rm_lang_statement.specs.declared.command.WriteForm.{WriteForm}
-use Rattle.rm_machine.specs.Asked.{asked, by_thread}
-use Rattle.rm_machine.specs.BackupRefusal.{absent_of, damaged_write, lacks_logs, lost_of, marks_for}
+use Rattle.rm_lang_statement.specs.declared.command.{RepairForm.{RepairForm}, WriteForm.{WriteForm}}
+use Rattle.rm_machine.specs.{Asked.{asked, by_thread}, BackupRefusal.{absent_of, damaged_write, lacks_logs, lost_of, marks_for}}
 use Rattle.rm_machine.specs.BlockRecoverRefusal.{absent_named, lost_named, repair_refusal, repair_room_refusal}
-use Rattle.rm_machine.specs.Marks.{lacks_ids, lacks_room}
-use Rattle.rm_machine.specs.Sound.{IsSound}
-use Rattle.rm_machine.specs.declared.state.State.{State}
-use Rattle.rm_machine.specs.State.{ledger, now_of}
-use Rattle.rm_machine.proofs.BackupAccepted.{CanBeWritten, logs-have, unless-some, writes-can}
-use Rattle.rm_machine.proofs.Further.{roomy}
-use Rattle.rm_machine.proofs.WritersRoom.{LogsHave}
+use Rattle.rm_machine.specs.{Marks.{lacks_ids, lacks_room}, Sound.{IsSound}, State.{ledger, now_of}, declared.state.State.{State}}
+use Rattle.rm_machine.proofs.{BackupAccepted.{CanBeWritten, logs-have, unless-some, writes-can}, Further.{roomy}, WritersRoom.{LogsHave}}
 
 pub record CanRepair (s : State) (form : RepairForm) : Type 0 where
   pub opened : s.instance.is_open ≡ true

@@ -1,38 +1,20 @@
 -- BLOCKRECOVER: what stands at the end of its events is sound.
 use Rattle.std.proofs.Common.{◌≡◌, ◌∙◌, ◌==◌, ◌&&◌, not, inl, inr, ℕ, List, [], ◌∷◌, None, true, false, refl, ap, sym, subst, arith, length, map, All, Contains}
-use Rattle.std.proofs.lemmas.Bool.{and_from, eq-eqb}
-use Rattle.std.proofs.lemmas.List.Elements.{All-contains, All-weaker}
-use Rattle.rm_base.specs.declared.block.BlockId.{BlockId}
-use Rattle.rm_base.specs.declared.block.Row.{Row}
-use Rattle.rm_base.proofs.Lists.{any_to, filter_from, find_none}
+use Rattle.std.proofs.lemmas.{Bool.{and_from, eq-eqb}, List.Elements.{All-contains, All-weaker}}
+use Rattle.rm_base.{specs.declared.block.{BlockId.{BlockId}, Row.{Row}}, proofs.Lists.{any_to, filter_from, find_none}}
 use Rattle.rm_base.proofs.Members.{behind, first-or-rest, in-front, none-in}
 use Rattle.rm_channel.specs.Made.{AreThese, deed}
-use Rattle.rm_history.specs.Evidence.{Evidence}
-use Rattle.rm_history.specs.World.{exists, file_of}
-use Rattle.rm_lang_statement.specs.declared.command.BackupForm.{BackupForm}
-use Rattle.rm_lang_statement.specs.declared.command.RepairForm.{RepairForm}
-use Rattle.rm_lang_statement.specs.declared.command.WriteForm.{WriteForm}
-use Rattle.rm_live.specs.declared.history.Event.{Event}
-use Rattle.rm_live.specs.History.{IsLegal}
+use Rattle.rm_history.specs.{Evidence.{Evidence}, World.{exists, file_of}}
+use Rattle.rm_lang_statement.specs.declared.command.{BackupForm.{BackupForm}, RepairForm.{RepairForm}, WriteForm.{WriteForm}}
+use Rattle.rm_live.specs.{History.{IsLegal}, declared.history.Event.{Event}}
 use Rattle.rm_plan.specs.Blocks.{AreToldRows}
-use Rattle.rm_redo.specs.Logs.{Logs}
-use Rattle.rm_redo.specs.Online.{IsThread}
-use Rattle.rm_machine.specs.Asked.{asked}
-use Rattle.rm_machine.specs.BlockRecover.{asks_for, blocks_mended, repair_begun, without_mended}
-use Rattle.rm_machine.specs.Damage.{IsInPlace, has_block}
-use Rattle.rm_machine.specs.Events.{after_events, opening}
-use Rattle.rm_machine.specs.Sound.{IsSound}
-use Rattle.rm_machine.specs.declared.state.State.{State}
-use Rattle.rm_machine.specs.State.{current_of, now_of, placed, world}
-use Rattle.rm_machine.proofs.BackingUp.{during-marks}
-use Rattle.rm_machine.proofs.BackupAccepted.{CanBeWritten}
-use Rattle.rm_machine.proofs.BackupMarks.{marked-same, sound-marked}
-use Rattle.rm_machine.proofs.Mending.{AreDue, CanMend, IsPatch, Patch, can-events}
-use Rattle.rm_machine.proofs.Putting.{sound-fewer}
-use Rattle.rm_machine.proofs.RepairAccepted.{CanRepair}
-use Rattle.rm_machine.proofs.Repairs.{IsOfBlock, are-due, patch-told, patches, wanted}
-use Rattle.rm_machine.proofs.ToldRows.{CanStand}
-use Rattle.rm_machine.proofs.Walk.{CanGoOn, events-same}
+use Rattle.rm_redo.specs.{Logs.{Logs}, Online.{IsThread}}
+use Rattle.rm_machine.specs.{Asked.{asked}, BlockRecover.{asks_for, blocks_mended, repair_begun, without_mended}}
+use Rattle.rm_machine.specs.{Damage.{IsInPlace, has_block}, Events.{after_events, opening}, Sound.{IsSound}}
+use Rattle.rm_machine.{specs.{State.{current_of, now_of, placed, world}, declared.state.State.{State}}, proofs.BackingUp.{during-marks}}
+use Rattle.rm_machine.proofs.{BackupAccepted.{CanBeWritten}, BackupMarks.{marked-same, sound-marked}}
+use Rattle.rm_machine.proofs.{Mending.{AreDue, CanMend, IsPatch, Patch, can-events}, Putting.{sound-fewer}, RepairAccepted.{CanRepair}}
+use Rattle.rm_machine.proofs.{Repairs.{IsOfBlock, are-due, patch-told, patches, wanted}, ToldRows.{CanStand}, Walk.{CanGoOn, events-same}}
 
 -- a BACKUP of the same writes: the mark before them is the same
 abbrev pub marking : RepairForm → BackupForm

@@ -1,50 +1,23 @@
 -- RESTORE: each datafile comes to stand in place as a backup has it, or as it was created.
 use Rattle.std.proofs.Common.{◌≡◌, ◌≢◌, ◌<◌, ◌≤◌, ◌+◌, ◌-◌, ◌∙◌, inl, inr, ℕ, List, Option, Some, None, IsSomeAnd, false, refl, ap, sym, subst, arith, length, slice_get, Contains}
 use Rattle.std.proofs.lemmas.List.Elements.{All-contains, All-weaker}
-use Rattle.rm_base.specs.Store.{Held}
-use Rattle.rm_base.specs.declared.block.Row.{Row}
-use Rattle.rm_base.specs.declared.kinds.Kind.{Kind}
-use Rattle.rm_base.specs.declared.kinds.Kind.TheVariants.{Full, Level0, Level1, Place}
-use Rattle.rm_base.proofs.Lists.{map_from}
-use Rattle.rm_base.proofs.Slots.{all-get}
-use Rattle.rm_blocks.specs.File.{File, created, created_rows}
-use Rattle.rm_blocks.proofs.Rows.{created-row, in_order-created, length-created}
-use Rattle.rm_catalog.specs.declared.record.PieceEntry.{PieceEntry}
-use Rattle.rm_catalog.specs.declared.record.SetEntry.{SetEntry}
-use Rattle.rm_catalog.specs.declared.record.Record.TheVariants as kind
-use Rattle.rm_catalog.specs.Objects.{FitsRows}
-use Rattle.rm_apply.specs.declared.origin.Origin.{Origin}
-use Rattle.rm_apply.specs.declared.recovering.Recovered.{Recovered}
+use Rattle.rm_base.specs.{Store.{Held}, declared.{block.Row.{Row}, kinds.Kind.{Kind, TheVariants.{Full, Level0, Level1, Place}}}}
+use Rattle.rm_base.proofs.{Lists.{map_from}, Slots.{all-get}}
+use Rattle.rm_blocks.{specs.File.{File, created, created_rows}, proofs.Rows.{created-row, in_order-created, length-created}}
+use Rattle.rm_catalog.specs.{Objects.{FitsRows}, declared.record.{PieceEntry.{PieceEntry}, SetEntry.{SetEntry}, Record.TheVariants as kind}}
 use Rattle.rm_apply.specs.Recover.{IsEvidence}
 use Rattle.rm_apply.specs.Restore.{AreRestored, IsBackupFor, IsRestoration, Restores, backed_up, file_by, restored as file_of_restoration}
-use Rattle.rm_apply.proofs.Restorations.{chosen_in_order}
-use Rattle.rm_evidence.specs.declared.evidence.Evidence.{Evidence}
-use Rattle.rm_evidence.specs.Known.{FitsPiece, FitsTree, IsPartOf, IsRecorded}
-use Rattle.rm_evidence.specs.Database.{datafiles}
-use Rattle.rm_evidence.specs.Objects.{HasPieceFields}
-use Rattle.rm_evidence.proofs.Fitting.{gathered-recorded}
-use Rattle.rm_evidence.proofs.Seen.{seen-so}
-use Rattle.rm_history.specs.declared.tree.Incarnation.{Incarnation}
-use Rattle.rm_history.specs.declared.world.Datafile.{Datafile}
-use Rattle.rm_history.specs.declared.world.World.{World}
-use Rattle.rm_history.specs.Tree.{IsThere, end_of}
-use Rattle.rm_history.specs.World.{file_of}
-use Rattle.rm_history.proofs.Highs.{high-bound}
-use Rattle.rm_catalog_typed.specs.LedgerFacts.{IsCreated, IsPieceEntry, IsSetEntry, IsSetPart}
-use Rattle.rm_piece.specs.declared.piece.Piece.{Piece}
-use Rattle.rm_piece.specs.Valid.{FitsKind, IsPiece, IsRow}
-use Rattle.rm_catalog_typed.specs.TypedCatalog.{records_of}
-use Rattle.rm_catalog_typed.proofs.Members.{piece-in, set-in}
-use Rattle.rm_machine.specs.Recovery.{in_place, put_over}
-use Rattle.rm_machine.specs.Restore.{restored}
-use Rattle.rm_machine.specs.Sound.{IsPlaced, IsPlacedRow, IsSound}
-use Rattle.rm_machine.specs.declared.state.State.{State}
-use Rattle.rm_machine.specs.State.{ledger, tree, world}
-use Rattle.rm_machine.proofs.Exchanging.{sound-exchanged}
-use Rattle.rm_machine.proofs.Numbers.{file-at, file-place}
-use Rattle.rm_machine.proofs.Placing.{over-cases, over-length}
-use Rattle.rm_catalog_typed.proofs.Records.{files-told, tree-told, world-told}
-use Rattle.rm_machine.proofs.Standing.{at-place, each-get}
+use Rattle.rm_apply.{specs.declared.{origin.Origin.{Origin}, recovering.Recovered.{Recovered}}, proofs.Restorations.{chosen_in_order}}
+use Rattle.rm_evidence.specs.{Known.{FitsPiece, FitsTree, IsPartOf, IsRecorded}, Database.{datafiles}, Objects.{HasPieceFields}}
+use Rattle.rm_evidence.{specs.declared.evidence.Evidence.{Evidence}, proofs.{Fitting.{gathered-recorded}, Seen.{seen-so}}}
+use Rattle.rm_history.specs.{Tree.{IsThere, end_of}, World.{file_of}, declared.{tree.Incarnation.{Incarnation}, world.Datafile.{Datafile}}}
+use Rattle.rm_history.{specs.declared.world.World.{World}, proofs.Highs.{high-bound}}
+use Rattle.rm_catalog_typed.specs.{LedgerFacts.{IsCreated, IsPieceEntry, IsSetEntry, IsSetPart}, TypedCatalog.{records_of}}
+use Rattle.rm_catalog_typed.proofs.{Members.{piece-in, set-in}, Records.{files-told, tree-told, world-told}}
+use Rattle.rm_piece.specs.{Valid.{FitsKind, IsPiece, IsRow}, declared.piece.Piece.{Piece}}
+use Rattle.rm_machine.specs.{Recovery.{in_place, put_over}, Restore.{restored}, Sound.{IsPlaced, IsPlacedRow, IsSound}}
+use Rattle.rm_machine.{specs.{State.{ledger, tree, world}, declared.state.State.{State}}, proofs.Exchanging.{sound-exchanged}}
+use Rattle.rm_machine.proofs.{Numbers.{file-at, file-place}, Placing.{over-cases, over-length}, Standing.{at-place, each-get}}
 
 -- a piece that is no level 1 has each block
 pub entry-rows : (k : Kind) (n m : ℕ) → k ≢ Level1 → FitsRows k n m → n ≡ m

@@ -2,20 +2,12 @@
 use Rattle.std.proofs.Common.{◌≡◌, ◌≤◌, ◌∙◌, List, [], ◌∷◌, ap, sym, subst, length, replicate, None, All}
 use Rattle.rm_base.specs.Numbers.{last_scn}
 use Rattle.rm_history.specs.Tree.{IsThere}
-use Rattle.rm_live.specs.declared.history.Event.{Event}
-use Rattle.rm_live.specs.Parts.{Parts}
-use Rattle.rm_live.proofs.Sound.{fold-sound}
+use Rattle.rm_live.{specs.{Parts.{Parts}, declared.history.Event.{Event}}, proofs.Sound.{fold-sound}}
 use Rattle.rm_catalog_typed.specs.TypedCatalog.{TypedCatalog}
-use Rattle.rm_machine.specs.declared.state.Instance.{Instance}
-use Rattle.rm_machine.specs.declared.state.State.{State}
-use Rattle.rm_machine.specs.State.{current_of, ledger, tree}
-use Rattle.rm_machine.specs.Events.{after_event, after_events, opening}
-use Rattle.rm_machine.specs.Running.{HasNumber, HasRun, IsTakenOut, at_home, risen}
-use Rattle.rm_machine.proofs.Ended.{after-all, risen-all}
-use Rattle.rm_machine.proofs.Following.{AreFrom, GoesAlong, goes-after, goes-along, opening-events}
-use Rattle.rm_machine.proofs.Homes.{home, present-numbers}
-use Rattle.rm_machine.proofs.Numbered.{numbers-from}
-use Rattle.rm_machine.proofs.Opening.{opening-sound}
+use Rattle.rm_machine.specs.{State.{current_of, ledger, tree}, Events.{after_event, after_events, opening}}
+use Rattle.rm_machine.specs.{Running.{HasNumber, HasRun, IsTakenOut, at_home, risen}, declared.state.{Instance.{Instance}, State.{State}}}
+use Rattle.rm_machine.proofs.{Ended.{after-all, risen-all}, Following.{AreFrom, GoesAlong, goes-after, goes-along, opening-events}}
+use Rattle.rm_machine.proofs.{Homes.{home, present-numbers}, Numbered.{numbers-from}, Opening.{opening-sound}}
 
 -- the state goes along with the database up to the end
 pub goes-events : (s : State) (es : List Event) → GoesAlong s → GoesAlong (after_events s es)

@@ -1,42 +1,22 @@
 -- BACKUP INCREMENTAL FROM SCN: what is known of one that was not refused, its increment, and the database after it.
-use Rattle.std.proofs.Common.{◌≡◌, ◌<◌, ◌≤◌, ◌+◌, ◌-◌, ◌∙◌, ◌||◌, ◌==◌, ℕ, List, [], Option, Some, None, true, nat_lt, refl, ap, sym, subst, arith, length, get_or, slice_get, All, AllPairs}
 use Rattle.std.specs.Option.{option_map_or}
-use Rattle.std.proofs.lemmas.Bool.{and_parts, ltb-false, ltb-true, or_parts}
-use Rattle.std.proofs.lemmas.List.{length-map}
-use Rattle.std.proofs.lemmas.List.Elements.{All-map, All-weaker, Contains-get_or}
-use Rattle.std.proofs.lemmas.Option.{slice_get-get_or}
-use Rattle.rm_base.specs.declared.block.Row.{Row}
-use Rattle.rm_base.specs.declared.refusal.Limit.TheVariants.{Bytes, ObjectIds}
-use Rattle.rm_base.specs.declared.refusal.Refusal.TheVariants.{Rm06, Rm09, Rm11}
-use Rattle.rm_base.proofs.Conditions.{only-where, unless}
-use Rattle.rm_base.proofs.Slots.{get-index}
+use Rattle.std.proofs.Common.{◌≡◌, ◌<◌, ◌≤◌, ◌+◌, ◌-◌, ◌∙◌, ◌||◌, ◌==◌, ℕ, List, [], Option, Some, None, true, nat_lt, refl, ap, sym, subst, arith, length, get_or, slice_get, All, AllPairs}
+use Rattle.std.proofs.lemmas.{Bool.{and_parts, ltb-false, ltb-true, or_parts}, List.{length-map}}
+use Rattle.std.proofs.lemmas.{List.Elements.{All-map, All-weaker, Contains-get_or}, Option.{slice_get-get_or}}
+use Rattle.rm_base.specs.declared.{block.Row.{Row}, refusal.{Limit.TheVariants.{Bytes, ObjectIds}, Refusal.TheVariants.{Rm06, Rm09, Rm11}}}
+use Rattle.rm_base.proofs.{Conditions.{only-where, unless}, Slots.{get-index}}
 use Rattle.rm_blocks.specs.File.{File, standing}
 use Rattle.rm_evidence.proofs.Fitting.{ascends}
-use Rattle.rm_history.specs.Tree.{owner, reset_of}
-use Rattle.rm_history.specs.World.{blocks_of}
-use Rattle.rm_history.specs.declared.world.Datafile.{Datafile}
-use Rattle.rm_history.proofs.Highs.{high-above}
-use Rattle.rm_catalog_typed.specs.Fitting.{FitsBase}
-use Rattle.rm_catalog_typed.proofs.Fitted.{base_fits}
-use Rattle.rm_piece.specs.Sets.{IsBeforeMember, IsMember, IsSet}
-use Rattle.rm_piece.specs.Valid.{IsBefore}
-use Rattle.rm_piece.specs.declared.set.SetFile.{SetFile}
-use Rattle.rm_machine.specs.Backup.{lost_taken, rows_in}
-use Rattle.rm_machine.specs.BackupOutcome.{begun}
-use Rattle.rm_machine.specs.BackupRefusal.{damage_refusal}
+use Rattle.rm_history.{specs.{Tree.{owner, reset_of}, World.{blocks_of}, declared.world.Datafile.{Datafile}}, proofs.Highs.{high-above}}
+use Rattle.rm_catalog_typed.{specs.Fitting.{FitsBase}, proofs.Fitted.{base_fits}}
+use Rattle.rm_piece.specs.{Sets.{IsBeforeMember, IsMember, IsSet}, Valid.{IsBefore}, declared.set.SetFile.{SetFile}}
+use Rattle.rm_machine.specs.{Backup.{lost_taken, rows_in}, BackupOutcome.{begun}, BackupRefusal.{damage_refusal}}
 use Rattle.rm_machine.specs.Marks.{lacks_bytes, lacks_ids, set_bytes}
 use Rattle.rm_machine.specs.Roll.{after_roll, increment, of_all, roll_member, roll_refusal, roll_room, rolled_files, with_next_id}
-use Rattle.rm_machine.specs.Sound.{IsPlaced, IsSound}
-use Rattle.rm_machine.specs.declared.state.State.{State}
-use Rattle.rm_machine.specs.State.{current_of, ledger, now_of, placed, tree, world}
-use Rattle.rm_machine.proofs.BackingUp.{sound-begun}
-use Rattle.rm_machine.proofs.BackupAccepted.{unless-some}
-use Rattle.rm_machine.proofs.Backups.{IsTaken, taken-all}
-use Rattle.rm_machine.proofs.Groups.{mapped-pairs, mapped-sum}
-use Rattle.rm_machine.proofs.Later.{sound-with}
-use Rattle.rm_machine.proofs.MembersRead.{member-is}
-use Rattle.rm_machine.proofs.PiecesRead.{AreAll, AreRead, BeginsBelow, IsCheckpoint, IsFound}
-use Rattle.rm_machine.proofs.Places.{counted-open}
+use Rattle.rm_machine.specs.{Sound.{IsPlaced, IsSound}, State.{current_of, ledger, now_of, placed, tree, world}}
+use Rattle.rm_machine.{specs.declared.state.State.{State}, proofs.{BackingUp.{sound-begun}, BackupAccepted.{unless-some}}}
+use Rattle.rm_machine.proofs.{Backups.{IsTaken, taken-all}, Groups.{mapped-pairs, mapped-sum}, Later.{sound-with}, MembersRead.{member-is}}
+use Rattle.rm_machine.proofs.{PiecesRead.{AreAll, AreRead, BeginsBelow, IsCheckpoint, IsFound}, Places.{counted-open}}
 use Rattle.rm_machine.proofs.TakenFiles.{taken-blocks, taken-few, taken-rise}
 
 -- it was not refused

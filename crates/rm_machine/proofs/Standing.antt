@@ -1,8 +1,7 @@
 -- What stands in a list, and at which place.
-use Rattle.std.proofs.Common.{◌≡◌, ◌≤◌, ◌∙◌, inl, inr, ℕ, zero, suc, List, [], ◌∷◌, Option, Some, None, refl, ap, arith, All, Contains, get_or, length, slice_get}
 use Rattle.std.specs.List.{filter_map}
-use Rattle.std.proofs.lemmas.List.Elements.{All-cons, All-nil, Contains-get_or}
-use Rattle.std.proofs.lemmas.Option.{slice_get-get_or}
+use Rattle.std.proofs.Common.{◌≡◌, ◌≤◌, ◌∙◌, inl, inr, ℕ, zero, suc, List, [], ◌∷◌, Option, Some, None, refl, ap, arith, All, Contains, get_or, length, slice_get}
+use Rattle.std.proofs.lemmas.{List.Elements.{All-cons, All-nil, Contains-get_or}, Option.{slice_get-get_or}}
 use Rattle.rm_base.proofs.Members.{none-in, first-or-rest}
 
 -- what is true of each item by its place is true of all

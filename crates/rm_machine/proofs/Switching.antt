@@ -1,32 +1,18 @@
 -- SWITCH LOGFILE: the log of a thread becomes an archived one, and the database stays sound.
 use Rattle.std.proofs.Common.{◌≡◌, ◌≢◌, ◌<◌, ◌≤◌, ◌+◌, ◌-◌, ◌^◌, ◌∙◌, nat_lt, inl, inr, ℕ, [], true, false, refl, ap, sym, subst, arith, length, All, AllPairs, slice_get}
-use Rattle.std.proofs.lemmas.Bool.{and_parts, cases_eq, ltb-true}
-use Rattle.std.proofs.lemmas.Bool.Decides.{nat_tests}
-use Rattle.std.proofs.lemmas.List.Elements.{All-nil}
+use Rattle.std.proofs.lemmas.{Bool.{and_parts, cases_eq, ltb-true, Decides.{nat_tests}}, List.Elements.{All-nil}}
 use Rattle.rm_catalog.specs.declared.record.LogEntry.{LogEntry}
 use Rattle.rm_history.specs.Tree.{IsThere, end_of, reset_of}
-use Rattle.rm_catalog_typed.specs.LedgerFacts.{IsLogEntry}
-use Rattle.rm_catalog_typed.specs.Facts.{IsTypedCatalog}
-use Rattle.rm_catalog_typed.proofs.Fitted.{new_log_fits}
-use Rattle.rm_catalog_typed.specs.Ledger.{Ledger, ledger_records}
-use Rattle.rm_catalog_typed.specs.Switches.{is_enabled_in}
-use Rattle.rm_redo.specs.declared.log_file.LogFile.{LogFile}
-use Rattle.rm_redo.specs.LogFile.{log_file_of}
-use Rattle.rm_redo.specs.LogFormat.{IsLogRecord, body_of}
-use Rattle.rm_redo.specs.Logs.{IsBefore, Logs}
-use Rattle.rm_redo.specs.Online.{IsThread, first_of, has_log, sequence_of, switched}
-use Rattle.rm_base.proofs.Sealing.{length-sealed}
-use Rattle.rm_redo.proofs.LogBodies.{length-body}
-use Rattle.rm_redo.proofs.LogFitting.{fits as fits-log}
+use Rattle.rm_catalog_typed.specs.{LedgerFacts.{IsLogEntry}, Facts.{IsTypedCatalog}, Ledger.{Ledger, ledger_records}}
+use Rattle.rm_catalog_typed.{specs.Switches.{is_enabled_in}, proofs.Fitted.{new_log_fits}}
+use Rattle.rm_redo.specs.{LogFile.{log_file_of}, LogFormat.{IsLogRecord, body_of}, Logs.{IsBefore, Logs}}
+use Rattle.rm_redo.specs.{Online.{IsThread, first_of, has_log, sequence_of, switched}, declared.log_file.LogFile.{LogFile}}
+use Rattle.rm_redo.proofs.{LogBodies.{length-body}, LogFitting.{fits as fits-log}}
 use Rattle.rm_redo.proofs.Logs.{around-switched, first_of-switched, is_lost-switched, other-switched, thread_records-switched, sequence_of-switched}
-use Rattle.rm_machine.specs.Marks.{lacks_room}
-use Rattle.rm_machine.specs.Sound.{IsOnline, IsSound}
-use Rattle.rm_machine.specs.declared.state.State.{State}
-use Rattle.rm_machine.specs.State.{is_lost, is_online, online, redo_end}
-use Rattle.rm_machine.specs.SwitchLogfile.{is_due, log_entry, with_archived}
-use Rattle.rm_machine.proofs.Further.{roomy-either}
-use Rattle.rm_machine.proofs.Threads.{file_by, gone-switched, online-parts, thread-before}
-use Rattle.rm_machine.proofs.Tracked.{tracked-same}
+use Rattle.rm_base.proofs.Sealing.{length-sealed}
+use Rattle.rm_machine.specs.{Marks.{lacks_room}, Sound.{IsOnline, IsSound}, State.{is_lost, is_online, online, redo_end}}
+use Rattle.rm_machine.specs.{SwitchLogfile.{is_due, log_entry, with_archived}, declared.state.State.{State}}
+use Rattle.rm_machine.proofs.{Further.{roomy-either}, Threads.{file_by, gone-switched, online-parts, thread-before}, Tracked.{tracked-same}}
 use Rattle.rm_machine.proofs.Damaged.{damaged-same}
 
 -- An empty log

@@ -1,22 +1,13 @@
 -- The tag of a backup keeps the rule of records.
-use Rattle.std.proofs.Common.{◌≡◌, ◌&&◌, inl, inr, ℕ, List, [], ◌∷◌, Option, Some, None, true, refl, sym, subst, arith, All, length, nat_le, bytes_eq}
 use Rattle.std.specs.List.{list_all}
-use Rattle.std.proofs.lemmas.Bool.{and_parts, and_from, leb-true}
-use Rattle.std.proofs.lemmas.Bool.Decides.{nat_tests}
-use Rattle.std.proofs.lemmas.List.Elements.{All-head, All-tail}
+use Rattle.std.proofs.Common.{◌≡◌, ◌&&◌, inl, inr, ℕ, List, [], ◌∷◌, Option, Some, None, true, refl, sym, subst, arith, All, length, nat_le, bytes_eq}
+use Rattle.std.proofs.lemmas.{Bool.{and_parts, and_from, leb-true, Decides.{nat_tests}}, List.Elements.{All-head, All-tail}}
 use Rattle.rm_lang_token.specs.Tokens.{is_word_byte}
-use Rattle.rm_lang_grammar.specs.Grammar.{capitals, in_range, is_tag}
-use Rattle.rm_lang_grammar.specs.Spelling.{is_capital_tag, maybe_valid}
-use Rattle.rm_lang_statement.specs.declared.command.BackupForm.{BackupForm}
-use Rattle.rm_lang_statement.specs.Agreed.{agrees}
-use Rattle.rm_lang_statement.specs.IsCommand.{is_backup}
-use Rattle.rm_lang_statement.specs.Named.{are_named}
+use Rattle.rm_lang_grammar.specs.{Grammar.{capitals, in_range, is_tag}, Spelling.{is_capital_tag, maybe_valid}}
+use Rattle.rm_lang_statement.specs.{Agreed.{agrees}, IsCommand.{is_backup}, Named.{are_named}, declared.command.BackupForm.{BackupForm}}
 use Rattle.rm_catalog.specs.Objects.{IsTag, is_tag_byte}
-use Rattle.rm_moments.specs.Tags.{IsTagByte}
-use Rattle.rm_moments.specs.Text as text
-use Rattle.rm_moments.proofs.Tags.{tag-long, tag-bytes}
-use Rattle.rm_machine.specs.Backup.{IsTagBy, named_tag}
-use Rattle.rm_machine.specs.Until.{or_else}
+use Rattle.rm_moments.{specs.{Text as text, Tags.{IsTagByte}}, proofs.Tags.{tag-long, tag-bytes}}
+use Rattle.rm_machine.specs.{Backup.{IsTagBy, named_tag}, Until.{or_else}}
 
 -- a byte of a word is one of a tag
 word-tag : (c : ℕ) → is_word_byte c ≡ true → is_tag_byte c ≡ true

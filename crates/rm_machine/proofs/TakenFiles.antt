@@ -1,15 +1,9 @@
 -- The datafiles that a backup takes: they ascend, are 64 at most, and have no more blocks than all datafiles together.
 use Rattle.std.proofs.Common.{◌≡◌, ◌<◌, ◌≤◌, ◌+◌, ◌-◌, ℕ, suc, List, [], ◌∷◌, Some, Bool, true, false, cond, refl, subst, arith, length, sum_by, slice_get, All, AllPairs}
-use Rattle.std.proofs.lemmas.List.Elements.{All-cons, All-nil, All-weaker}
-use Rattle.std.proofs.lemmas.List.Kept.{AllPairs-cons}
-use Rattle.std.proofs.lemmas.List.Sums.{sum_by-cons}
-use Rattle.rm_history.specs.World.{blocks_of}
-use Rattle.rm_history.specs.declared.world.Datafile.{Datafile}
+use Rattle.std.proofs.lemmas.List.{Elements.{All-cons, All-nil, All-weaker}, Kept.{AllPairs-cons}, Sums.{sum_by-cons}}
+use Rattle.rm_history.specs.{World.{blocks_of}, declared.world.Datafile.{Datafile}}
 use Rattle.rm_lang_statement.specs.declared.command.BackupForm.{BackupForm}
-use Rattle.rm_machine.specs.Backup.{is_taken, taken, taken_from}
-use Rattle.rm_machine.specs.Sound.{IsSound}
-use Rattle.rm_machine.specs.declared.state.State.{State}
-use Rattle.rm_machine.specs.State.{ledger, world}
+use Rattle.rm_machine.specs.{Backup.{is_taken, taken, taken_from}, Sound.{IsSound}, State.{ledger, world}, declared.state.State.{State}}
 use Rattle.rm_machine.proofs.PiecesRead.{blocks-by}
 
 -- their number

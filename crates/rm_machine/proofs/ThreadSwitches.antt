@@ -1,38 +1,20 @@
 -- A redo thread is enabled or disabled: its switch fits the records, and the database stays sound.
-use Rattle.std.proofs.Common.{◌≡◌, ◌≢◌, ◌<◌, ◌≤◌, ◌+◌, ◌-◌, ◌∙◌, ◌==◌, ◌&&◌, ◌||◌, not, inl, inr, ℕ, List, [], ◌∷◌, ◌++◌, Some, Bool, true, false, refl, ap, sym, subst, arith, length, All, slice_get, slice_set}
 use Rattle.std.specs.Option.{option_map_or}
-use Rattle.std.proofs.lemmas.Bool.{cases_eq}
-use Rattle.std.proofs.lemmas.List.{length-set, map_push}
-use Rattle.std.proofs.lemmas.List.Elements.{All-contains, All-nil}
-use Rattle.rm_history.specs.declared.tree.Incarnation.{Incarnation}
-use Rattle.rm_history.specs.declared.world.Switch.{Switch}
-use Rattle.rm_history.specs.Threads.{is_enabled}
-use Rattle.rm_history.specs.Tree.{IsThere, end_of, owner}
-use Rattle.rm_history.proofs.Enabled.{applies-from, applies-parts, enabled-alike}
-use Rattle.rm_history.proofs.Owners.{owner-here}
-use Rattle.rm_history.proofs.Switches.{switched-other, switched-own}
-use Rattle.rm_catalog_typed.specs.Changes.{with_switch}
-use Rattle.rm_catalog_typed.specs.Fitting.{FitsSwitch}
-use Rattle.rm_catalog_typed.specs.Ledger.{Ledger, ledger_records}
+use Rattle.std.proofs.Common.{◌≡◌, ◌≢◌, ◌<◌, ◌≤◌, ◌+◌, ◌-◌, ◌∙◌, ◌==◌, ◌&&◌, ◌||◌, not, inl, inr, ℕ, List, [], ◌∷◌, ◌++◌, Some, Bool, true, false, refl, ap, sym, subst, arith, length, All, slice_get, slice_set}
+use Rattle.std.proofs.lemmas.{Bool.{cases_eq}, List.{length-set, map_push, Elements.{All-contains, All-nil}}}
+use Rattle.rm_history.specs.{Threads.{is_enabled}, Tree.{IsThere, end_of, owner}, declared.tree.Incarnation.{Incarnation}}
+use Rattle.rm_history.{specs.declared.world.Switch.{Switch}, proofs.Enabled.{applies-from, applies-parts, enabled-alike}}
+use Rattle.rm_history.proofs.{Owners.{owner-here}, Switches.{switched-other, switched-own}}
+use Rattle.rm_catalog_typed.specs.{Changes.{with_switch}, Fitting.{FitsSwitch}, Ledger.{Ledger, ledger_records}}
 use Rattle.rm_catalog_typed.specs.Switches.{IsAbove, enabled_by, is_enabled_in, leaves_one, switch_of, switches_of}
-use Rattle.rm_catalog_typed.specs.declared.thread_switch.ThreadSwitch.{ThreadSwitch}
-use Rattle.rm_catalog_typed.proofs.Fitted.{switch_fits}
-use Rattle.rm_catalog_typed.proofs.Trees.{parents_below}
-use Rattle.rm_redo.specs.declared.online.ThreadLog.{ThreadLog}
-use Rattle.rm_redo.specs.Logs.{Logs}
-use Rattle.rm_redo.specs.LogFormat.{IsLogRecord}
-use Rattle.rm_redo.specs.Online.{IsThread, empty_log, has_log, log_where, with_log}
-use Rattle.rm_redo.proofs.Logs.{other-with_log, put-with_log}
-use Rattle.rm_machine.specs.DisableThread.{has_other}
-use Rattle.rm_machine.specs.Marks.{marks_before, one_further}
-use Rattle.rm_machine.specs.Sound.{IsOnline, IsSound}
-use Rattle.rm_machine.specs.declared.state.State.{State}
-use Rattle.rm_machine.specs.State.{current_of, is_lost, ledger, now_of, online, redo_end, tree}
-use Rattle.rm_machine.proofs.Damaged.{damaged-same}
-use Rattle.rm_machine.proofs.Enabled.{path-below}
+use Rattle.rm_catalog_typed.{specs.declared.thread_switch.ThreadSwitch.{ThreadSwitch}, proofs.{Fitted.{switch_fits}, Trees.{parents_below}}}
+use Rattle.rm_redo.specs.{Logs.{Logs}, LogFormat.{IsLogRecord}, Online.{IsThread, empty_log, has_log, log_where, with_log}}
+use Rattle.rm_redo.{specs.declared.online.ThreadLog.{ThreadLog}, proofs.Logs.{other-with_log, put-with_log}}
+use Rattle.rm_machine.specs.{DisableThread.{has_other}, Marks.{marks_before, one_further}, Sound.{IsOnline, IsSound}}
+use Rattle.rm_machine.specs.{State.{current_of, is_lost, ledger, now_of, online, redo_end, tree}, declared.state.State.{State}}
+use Rattle.rm_machine.proofs.{Damaged.{damaged-same}, Enabled.{path-below}}
 use Rattle.rm_machine.proofs.Further.{GoesOn, count-further, further, inc-now, keeps-further, now-further, sound-further}
-use Rattle.rm_machine.proofs.Standing.{each-get}
-use Rattle.rm_machine.proofs.Threads.{file_by, gone-with_log, set-at, thread-in, where-gone, where-is_there}
+use Rattle.rm_machine.proofs.{Standing.{each-get}, Threads.{file_by, gone-with_log, set-at, thread-in, where-gone, where-is_there}}
 use Rattle.rm_machine.proofs.Tracked.{tracked-same}
 
 -- what is asked of a switch: the database goes on by one SCN and has room for one record more; the thread is not as the switch says, and

@@ -1,20 +1,13 @@
 -- Which threads have an online log, and which of these are lost.
-use Rattle.std.proofs.Common.{◌≡◌, ◌<◌, ◌≤◌, ◌-◌, ◌∙◌, ◌==◌, ◌||◌, not, nat_lt, inl, inr, ℕ, zero, suc, List, [], ◌∷◌, Option, Some, Bool, true, false, cond, refl, ap, sym, subst, arith, get_or, length, map, All, slice_get, slice_set}
 use Rattle.std.specs.Option.{option_map_or}
-use Rattle.std.proofs.lemmas.Bool.{and_parts, not-true, or_parts}
-use Rattle.std.proofs.lemmas.Bool.Decides.{nat_tests}
-use Rattle.std.proofs.lemmas.List.{get_or-set_same, length-set}
-use Rattle.std.proofs.lemmas.List.Elements.{All-map, All-set}
-use Rattle.std.proofs.lemmas.Option.{slice_get-get_or, slice_get_cases}
-use Rattle.rm_redo.specs.declared.log_file.LogFile.{LogFile}
-use Rattle.rm_redo.specs.declared.online.ThreadLog.{ThreadLog}
+use Rattle.std.proofs.Common.{◌≡◌, ◌<◌, ◌≤◌, ◌-◌, ◌∙◌, ◌==◌, ◌||◌, not, nat_lt, inl, inr, ℕ, zero, suc, List, [], ◌∷◌, Option, Some, Bool, true, false, cond, refl, ap, sym, subst, arith, get_or, length, map, All, slice_get, slice_set}
+use Rattle.std.proofs.lemmas.{Bool.{and_parts, not-true, or_parts, Decides.{nat_tests}}, List.{get_or-set_same, length-set}}
+use Rattle.std.proofs.lemmas.{List.Elements.{All-map, All-set}, Option.{slice_get-get_or, slice_get_cases}}
 use Rattle.rm_redo.specs.Logs.{Logs}
-use Rattle.rm_base.specs.declared.block.Change.{Change}
 use Rattle.rm_redo.specs.Online.{IsThread, begun_anew, first_of, has_log, log_where, no_log, record_of, switched, with_change, with_disabled, with_log, with_loss, with_record}
-use Rattle.rm_redo.proofs.Logs.{IsAround, put-with_log}
-use Rattle.rm_machine.specs.Sound.{IsGone}
-use Rattle.rm_machine.specs.declared.state.State.{State}
-use Rattle.rm_machine.specs.State.{is_lost, is_no_thread, is_online}
+use Rattle.rm_redo.{specs.declared.{log_file.LogFile.{LogFile}, online.ThreadLog.{ThreadLog}}, proofs.Logs.{IsAround, put-with_log}}
+use Rattle.rm_base.specs.declared.block.Change.{Change}
+use Rattle.rm_machine.specs.{Sound.{IsGone}, State.{is_lost, is_no_thread, is_online}, declared.state.State.{State}}
 
 not-false : (b : Bool) → not b ≡ false → b ≡ true
 not-false true is = refl

@@ -1,17 +1,11 @@
 -- What is told of datafiles is told of the database of the records.
 use Rattle.std.proofs.Common.{ℕ, List, Option, subst}
 use Rattle.rm_base.specs.Store.{Held}
-use Rattle.rm_apply.specs.declared.recovering.Recovered.{Recovered}
-use Rattle.rm_apply.specs.Recover.{TellsAll}
-use Rattle.rm_apply.specs.Told.{AreFilesAt}
+use Rattle.rm_apply.specs.{Recover.{TellsAll}, Told.{AreFilesAt}, declared.recovering.Recovered.{Recovered}}
 use Rattle.rm_evidence.specs.Known.{FitsTree, known_of}
-use Rattle.rm_history.specs.declared.tree.Incarnation.{Incarnation}
-use Rattle.rm_history.specs.declared.world.World.{World}
-use Rattle.rm_catalog_typed.specs.TypedCatalog.{records_of}
-use Rattle.rm_machine.specs.Recovery.{in_place}
-use Rattle.rm_machine.specs.declared.state.State.{State}
-use Rattle.rm_machine.specs.State.{tree, world}
-use Rattle.rm_catalog_typed.proofs.Records.{tree-told, world-told}
+use Rattle.rm_history.specs.declared.{tree.Incarnation.{Incarnation}, world.World.{World}}
+use Rattle.rm_catalog_typed.{specs.TypedCatalog.{records_of}, proofs.Records.{tree-told, world-told}}
+use Rattle.rm_machine.specs.{Recovery.{in_place}, State.{tree, world}, declared.state.State.{State}}
 
 -- what is told, of the database that the records tell
 pub tells-files : (s : State) (held : Option Held) (i at : ℕ) (back : Recovered) (tells : TellsAll held (records_of s.catalog) (in_place s) i at back) → AreFilesAt (world s) (known_of tells.evidence) i at back.files

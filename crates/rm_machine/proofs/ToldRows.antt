@@ -1,25 +1,13 @@
 -- A row that what is at hand tells of a block could stand in place: its version is that of a change below `now`, and it has 64 bytes.
 use Rattle.std.proofs.Common.{◌≡◌, ◌<◌, ◌==◌, true, List, [], ◌∷◌, subst, sym, arith, nat_lt, All}
-use Rattle.std.proofs.lemmas.Bool.{and_parts, eqb-true, ltb-true}
-use Rattle.std.proofs.lemmas.List.Elements.{All-cons, All-head, All-nil, All-tail}
-use Rattle.rm_base.specs.Content.{zero_block}
-use Rattle.rm_base.specs.declared.block.BlockId.{BlockId}
-use Rattle.rm_base.specs.declared.block.Row.{Row}
-use Rattle.rm_base.proofs.Slots.{all-get}
-use Rattle.rm_evidence.specs.declared.evidence.Evidence.{Evidence}
-use Rattle.rm_evidence.specs.Known.{FitsTree, known_of}
-use Rattle.rm_history.specs.FirstGap.{IsTarget}
-use Rattle.rm_history.specs.Known.{Seen, by_creation}
-use Rattle.rm_history.specs.Tree.{owner}
+use Rattle.std.proofs.lemmas.{Bool.{and_parts, eqb-true, ltb-true}, List.Elements.{All-cons, All-head, All-nil, All-tail}}
+use Rattle.rm_base.{specs.{Content.{zero_block}, declared.block.{BlockId.{BlockId}, Row.{Row}}}, proofs.Slots.{all-get}}
+use Rattle.rm_evidence.{specs.{Known.{FitsTree, known_of}, declared.evidence.Evidence.{Evidence}}, proofs.Contents.{seen-content}}
+use Rattle.rm_history.specs.{FirstGap.{IsTarget}, Known.{Seen, by_creation}, Tree.{owner}}
 use Rattle.rm_catalog_typed.specs.LedgerFacts.{IsCreated}
 use Rattle.rm_plan.specs.Blocks.{AreToldRows, IsToldRow}
-use Rattle.rm_machine.specs.Damage.{IsInPlace}
-use Rattle.rm_machine.specs.Sound.{IsPlacedRow, IsSound}
-use Rattle.rm_machine.specs.declared.state.State.{State}
-use Rattle.rm_machine.specs.State.{current_of, ledger, now_of, on_path, tree, world}
-use Rattle.rm_evidence.proofs.Contents.{seen-content}
-use Rattle.rm_machine.proofs.Numbers.{file-place, numbered}
-use Rattle.rm_machine.proofs.Tracked.{on-path, some-is}
+use Rattle.rm_machine.specs.{Damage.{IsInPlace}, Sound.{IsPlacedRow, IsSound}, State.{current_of, ledger, now_of, on_path, tree, world}}
+use Rattle.rm_machine.{specs.declared.state.State.{State}, proofs.{Numbers.{file-place, numbered}, Tracked.{on-path, some-is}}}
 use Rattle.rm_machine.proofs.WritersRoom.{rows-many}
 
 -- it is a block of a datafile that exists at `now`

@@ -1,28 +1,18 @@
 -- The bitmaps of a state: what a mark, a switch and a new start make of those of a datafile, and in which states they stay as they should be.
-use Rattle.std.proofs.Common.{◌≡◌, ◌≢◌, ◌⊎◌, inl, inr, ℕ, zero, suc, ◌<◌, ◌≤◌, ◌+◌, ◌-◌, ◌==◌, ◌&&◌, ◌∙◌, nat_lt, Bool, true, false, cond, Option, Some, None, List, [], ◌∷◌, ◌++◌, drop, take, get_or, length, slice_get, Contains, IsSome, refl, ap, sym, subst, arith, eqb-true, ltb-true, ne_eqb}
 use Rattle.std.specs.Option.{option_and_then, option_map, option_map_or}
-use Rattle.std.proofs.lemmas.Bool.{and_parts, cases_eq, eq-eqb, lt-ltb}
-use Rattle.std.proofs.lemmas.List.{length-replicate, length-set, length-take-le, take_more}
-use Rattle.std.proofs.lemmas.Option.{cond_some, option_and_then_some}
-use Rattle.std.proofs.lemmas.List.Elements.{All-drop, All-nil, All-push, Contains-append_cases}
-use Rattle.rm_base.proofs.Slots.{all-get}
-use Rattle.rm_base.proofs.Members.{behind, first-or-rest, in-front, none-in}
-use Rattle.rm_history.specs.declared.world.Datafile.{Datafile}
-use Rattle.rm_history.specs.declared.world.World.{World}
-use Rattle.rm_history.specs.Tree.{IsThere, end_of, owner, reset_of}
-use Rattle.rm_history.specs.World.{blocks_of, creation_of, exists, file_of}
-use Rattle.rm_history.proofs.Owners.{owner-cases}
+use Rattle.std.proofs.Common.{◌≡◌, ◌≢◌, ◌⊎◌, inl, inr, ℕ, zero, suc, ◌<◌, ◌≤◌, ◌+◌, ◌-◌, ◌==◌, ◌&&◌, ◌∙◌, nat_lt, Bool, true, false, cond, Option, Some, None, List, [], ◌∷◌, ◌++◌, drop, take, get_or, length, slice_get, Contains, IsSome, refl, ap, sym, subst, arith, eqb-true, ltb-true, ne_eqb}
+use Rattle.std.proofs.lemmas.{Bool.{and_parts, cases_eq, eq-eqb, lt-ltb}, List.{length-replicate, length-set, length-take-le, take_more}}
+use Rattle.std.proofs.lemmas.{Option.{cond_some, option_and_then_some}, List.Elements.{All-drop, All-nil, All-push, Contains-append_cases}}
+use Rattle.rm_base.proofs.{Slots.{all-get}, Members.{behind, first-or-rest, in-front, none-in}}
+use Rattle.rm_history.specs.{Tree.{IsThere, end_of, owner, reset_of}, World.{blocks_of, creation_of, exists, file_of}}
+use Rattle.rm_history.{specs.declared.world.{Datafile.{Datafile}, World.{World}}, proofs.Owners.{owner-cases}}
 use Rattle.rm_track.specs.Bitmaps.{Bitmap, Tracked, at_file, ending, fresh, mark_at, newest, switch_at, switched, tracked_at, with_file, with_mark}
-use Rattle.rm_track.specs.Told.{starts, starts_of}
-use Rattle.rm_track.proofs.Places.{found-other, found-same}
-use Rattle.rm_catalog_typed.specs.Facts.{IsTypedCatalog}
-use Rattle.rm_catalog_typed.specs.Ledger.{Ledger}
-use Rattle.rm_catalog_typed.specs.LedgerFacts.{IsCreated, IsLedger}
+use Rattle.rm_track.{specs.Told.{starts, starts_of}, proofs.Places.{found-other, found-same}}
+use Rattle.rm_catalog_typed.specs.{Facts.{IsTypedCatalog}, Ledger.{Ledger}, LedgerFacts.{IsCreated, IsLedger}}
 use Rattle.rm_catalog_typed.proofs.Trees.{Keeps, parents_below}
-use Rattle.rm_machine.specs.declared.state.State.{State}
 use Rattle.rm_machine.specs.State.{ledger, tree, world, current_of, now_of, on_path}
 use Rattle.rm_machine.specs.Tracked.{AreTracked, IsTracked, first_tracker, fresh_from, switch_all, tracks, with_tracker}
-use Rattle.rm_machine.proofs.Numbers.{file-at, file-place}
+use Rattle.rm_machine.{specs.declared.state.State.{State}, proofs.Numbers.{file-at, file-place}}
 
 -- Where the bitmaps start
 

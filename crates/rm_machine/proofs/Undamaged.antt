@@ -3,11 +3,8 @@ use Rattle.std.proofs.Common.{◌≡◌, ◌+◌, ◌∙◌, inl, inr, ℕ, zero
 use Rattle.std.proofs.lemmas.Bool.{cases_Bool}
 use Rattle.rm_base.specs.declared.block.BlockId.{BlockId}
 use Rattle.rm_blocks.specs.File.{File}
-use Rattle.rm_machine.specs.Damage.{has_file, undamaged, without_damaged}
-use Rattle.rm_machine.specs.Sound.{IsSound}
-use Rattle.rm_machine.specs.declared.state.State.{State}
-use Rattle.rm_machine.proofs.Damaged.{damaged-none}
-use Rattle.rm_machine.proofs.Tracked.{tracked-same}
+use Rattle.rm_machine.specs.{Damage.{has_file, undamaged, without_damaged}, Sound.{IsSound}, declared.state.State.{State}}
+use Rattle.rm_machine.proofs.{Damaged.{damaged-none}, Tracked.{tracked-same}}
 
 -- as many places
 pub undamaged-many : (xs : List BlockId) (f : ℕ) (place : List (Option File)) → length (undamaged xs f place) ≡ length place

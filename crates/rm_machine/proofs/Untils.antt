@@ -1,16 +1,12 @@
 -- What a statement with an UNTIL that is not refused leads to, and the date that a refusal of it tells.
-use Rattle.std.proofs.Common.{◌≡◌, ◌∙◌, ℕ, Option, Some, None, sym, ap}
-use Rattle.std.specs.Option.{option_map_or}
-use Rattle.std.specs.Prelude.{IfSome}
+use Rattle.std.{specs.{Option.{option_map_or}, Prelude.{IfSome}}, proofs.Common.{◌≡◌, ◌∙◌, ℕ, Option, Some, None, sym, ap}}
 use Rattle.rm_base.specs.declared.refusal.Refusal.{Refusal}
-use Rattle.rm_lang_statement.specs.declared.command.Until.{Until}
-use Rattle.rm_lang_statement.specs.declared.command.Until.TheVariants.{Scn, Sequence, Time}
+use Rattle.rm_lang_statement.specs.declared.command.Until.{Until, TheVariants.{Scn, Sequence, Time}}
 use Rattle.rm_moments.proofs.Meant.{meant-within}
 use Rattle.rm_report.specs.Reply.{HasDate}
-use Rattle.rm_machine.specs.Sound.{IsSound}
-use Rattle.rm_machine.specs.declared.state.State.{State}
-use Rattle.rm_machine.specs.State.{ledger}
+use Rattle.rm_machine.specs.{Sound.{IsSound}, State.{ledger}}
 use Rattle.rm_machine.specs.Until.{nowhere_refusal, or_else, refusal_at, target_of, thread_refusal, until_refusal}
+use Rattle.rm_machine.specs.declared.state.State.{State}
 
 -- where the first that has a value has none, the second has none
 pub second-none : {X : Type 0} (o p : Option X) → or_else o p ≡ None → p ≡ None

@@ -1,9 +1,7 @@
 -- Records go, one after another, and the database goes on.
 use Rattle.std.proofs.Common.{ℕ, List, [], ◌∷◌}
 use Rattle.rm_catalog_typed.specs.TypedCatalog.{TypedCatalog}
-use Rattle.rm_machine.specs.Sound.{IsSound}
-use Rattle.rm_machine.specs.declared.state.State.{State}
-use Rattle.rm_machine.specs.Upkeep.{with_catalog, without_all, without_record}
+use Rattle.rm_machine.specs.{Sound.{IsSound}, Upkeep.{with_catalog, without_all, without_record}, declared.state.State.{State}}
 use Rattle.rm_machine.proofs.Entries.{GoesOn, then-on, without-on}
 
 pub all-on : (ns : List ℕ) (s : State) → IsSound s → GoesOn s (without_all ns s.catalog)

@@ -1,47 +1,26 @@
 -- Along the events of a BACKUP the database stays sound, and what was read stands in it.
-use Rattle.std.proofs.Common.{◌≡◌, ◌≢◌, ◌≤◌, ◌+◌, ◌-◌, ◌∙◌, ◌++◌, ◌==◌, nat_lt, inl, inr, ℕ, zero, suc, List, [], ◌∷◌, Option, Some, None, Ok, Err, Bool, true, false, cond, refl, ap, sym, subst, arith, length, length-append, map, All, Contains, slice_index_or, slice_set}
 use Rattle.std.specs.Option.{option_map}
-use Rattle.std.proofs.lemmas.Bool.{and_from, and_parts, eqb-false, lt-ltb, ltb-true}
-use Rattle.std.proofs.lemmas.List.{append-nil, length-set}
+use Rattle.std.proofs.Common.{◌≡◌, ◌≢◌, ◌≤◌, ◌+◌, ◌-◌, ◌∙◌, ◌++◌, ◌==◌, nat_lt, inl, inr, ℕ, zero, suc, List, [], ◌∷◌, Option, Some, None, Ok, Err, Bool, true, false, cond, refl, ap, sym, subst, arith, length, length-append, map, All, Contains, slice_index_or, slice_set}
+use Rattle.std.proofs.lemmas.{Bool.{and_from, and_parts, eqb-false, lt-ltb, ltb-true}, List.{append-nil, length-set}}
 use Rattle.std.proofs.lemmas.List.Elements.{All-contains, All-weaker}
-use Rattle.rm_base.specs.Numbers.{last_scn}
-use Rattle.rm_base.specs.declared.block.Change.{Change}
-use Rattle.rm_base.specs.declared.block.Mark.{Mark}
-use Rattle.rm_base.specs.declared.block.Row.{Row}
-use Rattle.rm_base.proofs.Members.{first-or-rest, none-in}
+use Rattle.rm_base.specs.{Numbers.{last_scn}, declared.block.{Change.{Change}, Mark.{Mark}, Row.{Row}}}
+use Rattle.rm_base.proofs.{Members.{first-or-rest, none-in}, Conditions.{unless}}
 use Rattle.rm_blocks.specs.File.{File, written}
-use Rattle.rm_channel.specs.Jobs.{Deed}
-use Rattle.rm_channel.specs.Made.{deed}
-use Rattle.rm_history.specs.declared.world.Datafile.{Datafile}
-use Rattle.rm_history.specs.Tree.{owner, parent_of, reset_of, with_end}
-use Rattle.rm_history.specs.World.{exists}
+use Rattle.rm_channel.specs.{Jobs.{Deed}, Made.{deed}}
+use Rattle.rm_history.specs.{Tree.{owner, parent_of, reset_of, with_end}, World.{exists}, declared.world.Datafile.{Datafile}}
 use Rattle.rm_history.proofs.Worlds.{exists-with_end}
-use Rattle.rm_catalog_typed.specs.Ledger.{ledger_records}
-use Rattle.rm_live.specs.declared.history.Answer.{Answer}
-use Rattle.rm_live.specs.declared.history.Answer.TheVariants.{Found, Mended, Wrote}
-use Rattle.rm_live.specs.declared.history.Call.{Call}
-use Rattle.rm_live.specs.declared.history.Call.TheVariants.{Mend, Read, Write}
+use Rattle.rm_catalog_typed.{specs.Ledger.{ledger_records}, proofs.Fitted.{many}}
+use Rattle.rm_live.specs.{History.{IsLegal, IsRight}, Parts.{refusal_by, row_at}, declared.history.Answer.{Answer}}
+use Rattle.rm_live.specs.declared.history.{Answer.TheVariants.{Found, Mended, Wrote}, Call.{Call, TheVariants.{Mend, Read, Write}}}
 use Rattle.rm_live.specs.declared.history.Event.{Event}
-use Rattle.rm_live.specs.History.{IsLegal, IsRight}
-use Rattle.rm_live.specs.Parts.{refusal_by, row_at}
-use Rattle.rm_redo.specs.Online.{thread_records as log_records}
-use Rattle.rm_redo.proofs.Logs.{IsThread-with_change}
-use Rattle.rm_catalog_typed.proofs.Fitted.{many}
+use Rattle.rm_redo.{specs.Online.{thread_records as log_records}, proofs.Logs.{IsThread-with_change}}
 use Rattle.rm_lang_statement.specs.declared.command.WriteForm.{WriteForm}
-use Rattle.rm_machine.specs.Marks.{last_marked, mark_now, marks_before}
-use Rattle.rm_machine.specs.Sound.{IsSound}
-use Rattle.rm_machine.specs.Write.{change_of, with_write}
-use Rattle.rm_machine.specs.declared.state.State.{State}
+use Rattle.rm_machine.specs.{Marks.{last_marked, mark_now, marks_before}, Sound.{IsSound}, Write.{change_of, with_write}}
 use Rattle.rm_machine.specs.State.{current_of, ledger, now_of, placed, world}
-use Rattle.rm_machine.proofs.Further.{now-further}
-use Rattle.rm_machine.proofs.Writes.{Accepted}
-use Rattle.rm_machine.proofs.WritesSound.{sound-write}
 use Rattle.rm_machine.specs.Events.{after_event, after_events, change_by, opening, standing_in, with_placed_row, write_form}
-use Rattle.rm_machine.proofs.BackupAccepted.{CanBeWritten}
-use Rattle.rm_machine.proofs.Following.{goes-along, opening-after}
-use Rattle.rm_machine.proofs.Found.{read-found, read-of}
+use Rattle.rm_machine.{specs.declared.state.State.{State}, proofs.{Further.{now-further}, Writes.{Accepted}, WritesSound.{sound-write}}}
+use Rattle.rm_machine.proofs.{BackupAccepted.{CanBeWritten}, Following.{goes-along, opening-after}, Found.{read-found, read-of}}
 use Rattle.rm_machine.proofs.PiecesRead.{IsFound}
-use Rattle.rm_base.proofs.Conditions.{unless}
 
 -- an event is a read, or one of these writes, which took an SCN
 abbrev pub IsAsked : List WriteForm → Call → Answer → Type 0

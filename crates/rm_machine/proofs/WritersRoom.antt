@@ -1,34 +1,20 @@
 -- What writes that were not refused have for their writers.
+use Rattle.std.specs.{List.{filter_map}, Option.{option_map_or}}
 use Rattle.std.proofs.Common.{◌≡◌, ◌<◌, ◌≤◌, ◌+◌, ◌-◌, ◌∙◌, ◌==◌, ℕ, zero, suc, List, [], ◌∷◌, Option, Some, None, Bool, true, false, cond, nat_le, refl, ap, sym, subst, arith, filter, find, length, All, Contains, IsSome, slice_get}
-use Rattle.std.specs.List.{filter_map}
-use Rattle.std.specs.Option.{option_map_or}
-use Rattle.std.proofs.lemmas.Bool.{eq-eqb, eqb-true, ne_eqb}
-use Rattle.std.proofs.lemmas.Bool.Decides.{nat_tests}
-use Rattle.std.proofs.lemmas.List.{length-map}
+use Rattle.std.proofs.lemmas.{Bool.{eq-eqb, eqb-true, ne_eqb, Decides.{nat_tests}}, List.{length-map}}
 use Rattle.std.proofs.lemmas.List.Elements.{All-cons, All-contains, All-filter, All-map, All-nil, All-weaker}
-use Rattle.rm_base.specs.Numbers.{last_scn}
-use Rattle.rm_base.specs.declared.block.Row.{Row}
-use Rattle.rm_base.proofs.Lists.{filter_from}
-use Rattle.rm_base.proofs.Members.{in-front}
+use Rattle.rm_base.{specs.{Numbers.{last_scn}, declared.block.Row.{Row}}, proofs.{Lists.{filter_from}, Members.{in-front}}}
 use Rattle.rm_base.proofs.Slots.{get-index, index-get}
 use Rattle.rm_blocks.specs.File.{File}
-use Rattle.rm_channel.specs.Room.{AreThreads, CanWrite, HasBlock, HaveRoom}
-use Rattle.rm_channel.specs.declared.jobs.WriteJob.{WriteJob}
+use Rattle.rm_channel.specs.{Room.{AreThreads, CanWrite, HasBlock, HaveRoom}, declared.jobs.WriteJob.{WriteJob}}
 use Rattle.rm_history.specs.declared.world.Datafile.{Datafile}
 use Rattle.rm_catalog_typed.proofs.Lookups.{item-at}
-use Rattle.rm_live.specs.Parts.{row_at}
-use Rattle.rm_live.specs.Ruled.{one_if, total}
+use Rattle.rm_live.specs.{Parts.{row_at}, Ruled.{one_if, total}}
 use Rattle.rm_redo.specs.Online.{IsThread, thread_records as log_records}
 use Rattle.rm_lang_statement.specs.declared.command.WriteForm.{WriteForm}
-use Rattle.rm_machine.specs.Asked.{FitsNumbers, by_thread, lists_from, write_job}
-use Rattle.rm_machine.specs.Events.{opening, standing_in}
-use Rattle.rm_machine.specs.Sound.{IsPlaced, IsSound}
-use Rattle.rm_machine.specs.declared.state.State.{State}
-use Rattle.rm_machine.specs.State.{ledger, now_of, tree, placed}
-use Rattle.rm_machine.proofs.BackupAccepted.{CanBeWritten}
-use Rattle.rm_machine.proofs.ByThread.{lists-many}
-use Rattle.rm_machine.proofs.Numbers.{numbered}
-use Rattle.rm_machine.proofs.Places.{counted-open, placed-is}
+use Rattle.rm_machine.specs.{Asked.{FitsNumbers, by_thread, lists_from, write_job}, Events.{opening, standing_in}}
+use Rattle.rm_machine.specs.{Sound.{IsPlaced, IsSound}, State.{ledger, now_of, tree, placed}, declared.state.State.{State}}
+use Rattle.rm_machine.proofs.{BackupAccepted.{CanBeWritten}, ByThread.{lists-many}, Numbers.{numbered}, Places.{counted-open, placed-is}}
 
 -- The datafiles that stand in place
 

@@ -1,23 +1,15 @@
 -- A WRITE that was not refused.
-use Rattle.std.proofs.Common.{◌≡◌, ◌<◌, Option, Some, None, true, refl, length, rules}
-use Rattle.std.specs.Option.{option_map_or}
-use Rattle.rm_base.specs.declared.refusal.Refusal.TheVariants.{Rm05}
-use Rattle.rm_base.specs.declared.refusal.Absent.TheVariants.{File as AbsentFile}
+use Rattle.std.{specs.Option.{option_map_or}, proofs.Common.{◌≡◌, ◌<◌, Option, Some, None, true, refl, length, rules}}
+use Rattle.rm_base.specs.declared.refusal.{Refusal.TheVariants.{Rm05}, Absent.TheVariants.{File as AbsentFile}}
+use Rattle.rm_base.proofs.Conditions.{not-none, only-where, unless}
 use Rattle.rm_blocks.specs.File.{File}
-use Rattle.rm_history.specs.declared.world.Datafile.{Datafile}
-use Rattle.rm_history.specs.World.{exists, file_of}
+use Rattle.rm_history.specs.{World.{exists, file_of}, declared.world.Datafile.{Datafile}}
 use Rattle.rm_lang_statement.specs.declared.command.WriteForm.{WriteForm}
 use Rattle.rm_redo.specs.Online.{IsThread, thread_records}
-use Rattle.rm_base.proofs.Conditions.{not-none, only-where, unless}
 use Rattle.rm_catalog_typed.specs.Ledger.{ledger_records}
-use Rattle.rm_machine.specs.Marks.{marks_before}
-use Rattle.rm_machine.specs.declared.state.State.{State}
-use Rattle.rm_machine.specs.State.{ledger, world, current_of, is_no_thread, now_of, on_path, placed}
-use Rattle.rm_machine.specs.Sound.{IsSound}
-use Rattle.rm_machine.proofs.Further.{GoesOn, roomy}
-use Rattle.rm_machine.specs.Write.{block_refusal, write_refusal}
-use Rattle.rm_machine.proofs.Threads.{thread-of}
-use Rattle.rm_machine.proofs.Tracked.{on-path}
+use Rattle.rm_machine.specs.{Marks.{marks_before}, State.{ledger, world, current_of, is_no_thread, now_of, on_path, placed}}
+use Rattle.rm_machine.specs.{Sound.{IsSound}, Write.{block_refusal, write_refusal}, declared.state.State.{State}}
+use Rattle.rm_machine.proofs.{Further.{GoesOn, roomy}, Threads.{thread-of}, Tracked.{on-path}}
 
 pub record Accepted (s : State) (w : WriteForm) : Type 0 where
   pub on : GoesOn s

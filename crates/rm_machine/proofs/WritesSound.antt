@@ -1,42 +1,23 @@
 -- A WRITE leaves a sound state: one SCN further, its change is in its row and in the log of its thread.
-use Rattle.std.proofs.Common.{◌≡◌, ◌<◌, ◌≤◌, ◌+◌, ◌-◌, ◌∙◌, ◌⊎◌, inl, inr, ℕ, List, Option, Some, None, false, refl, ap, sym, subst, arith, length, All, Contains, slice_get, slice_set}
 use Rattle.std.specs.Option.{option_map}
-use Rattle.std.proofs.lemmas.Bool.{cases_eq}
-use Rattle.std.proofs.lemmas.List.{length-set}
-use Rattle.std.proofs.lemmas.List.Elements.{All-contains, All-contains_itself, All-set, All-weaker}
+use Rattle.std.proofs.Common.{◌≡◌, ◌<◌, ◌≤◌, ◌+◌, ◌-◌, ◌∙◌, ◌⊎◌, inl, inr, ℕ, List, Option, Some, None, false, refl, ap, sym, subst, arith, length, All, Contains, slice_get, slice_set}
+use Rattle.std.proofs.lemmas.{Bool.{cases_eq}, List.{length-set, Elements.{All-contains, All-contains_itself, All-set, All-weaker}}}
 use Rattle.std.proofs.lemmas.Option.{slice_get_within}
-use Rattle.rm_base.specs.declared.block.Change.{Change}
-use Rattle.rm_base.specs.declared.block.Row.{Row}
-use Rattle.rm_base.proofs.Slots.{all-get, get-index, get-set}
-use Rattle.rm_blocks.specs.File.{File, standing, written}
-use Rattle.rm_blocks.proofs.Rows.{in_order-set}
+use Rattle.rm_base.{specs.declared.block.{Change.{Change}, Row.{Row}}, proofs.Slots.{all-get, get-index, get-set}}
+use Rattle.rm_blocks.{specs.File.{File, standing, written}, proofs.Rows.{in_order-set}}
 use Rattle.rm_lang_statement.specs.declared.command.WriteForm.{WriteForm}
-use Rattle.rm_history.specs.declared.tree.Incarnation.{Incarnation}
-use Rattle.rm_history.specs.declared.world.Datafile.{Datafile}
-use Rattle.rm_history.specs.Tree.{IsThere, end_of, reset_of}
-use Rattle.rm_history.proofs.Highs.{high-above, high-bound}
-use Rattle.rm_history.proofs.Worlds.{file-there}
-use Rattle.rm_catalog_typed.specs.LedgerFacts.{IsCreated}
-use Rattle.rm_catalog_typed.specs.Ledger.{Ledger}
-use Rattle.rm_catalog_typed.specs.Switches.{is_enabled_in}
-use Rattle.rm_redo.specs.declared.online.LogRecord.{LogRecord}
-use Rattle.rm_redo.specs.LogFormat.{IsLogRecord}
-use Rattle.rm_redo.specs.Online.{IsThread, record_of}
+use Rattle.rm_history.specs.{Tree.{IsThere, end_of, reset_of}, declared.{tree.Incarnation.{Incarnation}, world.Datafile.{Datafile}}}
+use Rattle.rm_history.proofs.{Highs.{high-above, high-bound}, Worlds.{file-there}}
+use Rattle.rm_catalog_typed.specs.{LedgerFacts.{IsCreated}, Ledger.{Ledger}, Switches.{is_enabled_in}}
+use Rattle.rm_redo.specs.{LogFormat.{IsLogRecord}, Online.{IsThread, record_of}, declared.online.LogRecord.{LogRecord}}
 use Rattle.rm_redo.proofs.Logs.{around-with_change, first_of-with_change, inc-with_change, is_lost-with_change, thread_records-with_change, thread_records-with_change_other, sequence_of-with_change}
 use Rattle.rm_track.specs.Bitmaps.{mark_at}
 use Rattle.rm_machine.specs.Sound.{IsOnline, IsPlaced, IsPlacedRow, IsSound}
-use Rattle.rm_machine.specs.declared.state.State.{State}
-use Rattle.rm_machine.specs.State.{current_of, is_lost, ledger, now_of, online, placed, redo_end, world}
-use Rattle.rm_machine.specs.Tracked.{with_tracker}
-use Rattle.rm_machine.specs.Write.{change_of, with_write}
-use Rattle.rm_machine.proofs.Further.{further, keeps-further, now-further, redo-now, sound-further}
-use Rattle.rm_machine.proofs.FurtherLogs.{IsPushed, log-further}
-use Rattle.rm_machine.proofs.Places.{counted-open}
-use Rattle.rm_machine.proofs.Threads.{gone-with_change, thread-before}
-use Rattle.rm_machine.proofs.Tracked.{tracked-marked, tracked-same}
-use Rattle.rm_machine.proofs.Writes.{Accepted}
-use Rattle.rm_machine.proofs.Damaged.{damaged-put, damaged-same}
-use Rattle.rm_machine.specs.Events.{with_placed_row}
+use Rattle.rm_machine.specs.{State.{current_of, is_lost, ledger, now_of, online, placed, redo_end, world}, Tracked.{with_tracker}}
+use Rattle.rm_machine.specs.{Write.{change_of, with_write}, Events.{with_placed_row}, declared.state.State.{State}}
+use Rattle.rm_machine.proofs.{Further.{further, keeps-further, now-further, redo-now, sound-further}, FurtherLogs.{IsPushed, log-further}}
+use Rattle.rm_machine.proofs.{Places.{counted-open}, Threads.{gone-with_change, thread-before}, Tracked.{tracked-marked, tracked-same}}
+use Rattle.rm_machine.proofs.{Writes.{Accepted}, Damaged.{damaged-put, damaged-same}}
 
 module _ (s : State) (w : WriteForm) (sound : IsSound s) (a : Accepted s w) (full : length w.content.0 ≡ 64) where
   abbrev l : Ledger

@@ -1,16 +1,13 @@
 -- Online logs become archived ones, one thread after another: ALTER SYSTEM ARCHIVE LOG CURRENT.
 use Rattle.std.specs.Prelude.{ℕ, zero, suc, ◌≡◌, ◌+◌, ◌&&◌, nat_le, if◌then◌else◌, Bool, true, false, Option, Some, None, List, [], ◌++◌}
-use Rattle.rm_base.specs.declared.refusal.Refusal.{Refusal}
-use Rattle.rm_base.specs.declared.refusal.Refusal.TheVariants.{Rm04, Rm11}
+use Rattle.rm_base.specs.declared.refusal.Refusal.{Refusal, TheVariants.{Rm04, Rm11}}
 use Rattle.rm_base.specs.declared.refusal.Limit.TheVariants.{Records, Bytes, ObjectIds, Sequences}
 use Rattle.rm_commit.specs.declared.commit.Object.{Object}
 use Rattle.rm_redo.specs.Online.{has_log, sequence_of}
-use Rattle.rm_machine.specs.Effect.{Effect, Made, Outcome, done, no_effect}
-use Rattle.rm_report.specs.declared.line.Line.{Line}
-use Rattle.rm_machine.specs.Marks.{lacks_bytes, lacks_ids, lacks_room}
+use Rattle.rm_machine.specs.{Effect.{Effect, Made, Outcome, done, no_effect}, Marks.{lacks_bytes, lacks_ids, lacks_room}}
+use Rattle.rm_machine.specs.{State.{ledger, online}, SwitchLogfile.{archived, is_due, log_bytes, made_lines, none_lines, with_archived}}
 use Rattle.rm_machine.specs.declared.state.State.{State}
-use Rattle.rm_machine.specs.State.{ledger, online}
-use Rattle.rm_machine.specs.SwitchLogfile.{archived, is_due, log_bytes, made_lines, none_lines, with_archived}
+use Rattle.rm_report.specs.declared.line.Line.{Line}
 
 -- what the thread makes: its log as an artefact, and the object of that, where it has something to archive
 abbrev pub made_by : State → ℕ → List Made

@@ -1,16 +1,11 @@
 -- What a BACKUP asks of its channels, and a DURING of its writers.
 use Rattle.std.specs.Prelude.{ℕ, zero, suc, ◌<◌, ◌^◌, ◌==◌, unwrap_or, Bool, Option, List, [], ◌∷◌, filter, length, map}
 use Rattle.std.specs.Option.{option_and_then, option_map_or}
-use Rattle.rm_channel.specs.Jobs.{Span}
-use Rattle.rm_channel.specs.declared.jobs.WriteJob.{WriteJob}
-use Rattle.rm_lang_statement.specs.declared.command.BackupForm.{BackupForm}
-use Rattle.rm_lang_statement.specs.declared.command.WriteForm.{WriteForm}
+use Rattle.rm_channel.specs.{Jobs.{Span}, declared.jobs.WriteJob.{WriteJob}}
+use Rattle.rm_lang_statement.specs.declared.command.{BackupForm.{BackupForm}, WriteForm.{WriteForm}}
 use Rattle.rm_live.specs.Ruled.{upto}
-use Rattle.rm_track.specs.Bitmaps.{candidates_at}
-use Rattle.rm_track.specs.Bits.{blocks_from}
-use Rattle.rm_machine.specs.Backup.{rows_in}
-use Rattle.rm_machine.specs.declared.job.Job.{Job}
-use Rattle.rm_machine.specs.declared.state.State.{State}
+use Rattle.rm_track.specs.{Bitmaps.{candidates_at}, Bits.{blocks_from}}
+use Rattle.rm_machine.specs.{Backup.{rows_in}, declared.{job.Job.{Job}, state.State.{State}}}
 
 -- the writes that a DURING asks for, in the order of the text
 abbrev pub asked : Option (List WriteForm) → List WriteForm

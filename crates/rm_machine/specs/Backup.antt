@@ -1,31 +1,18 @@
 -- Which datafiles a BACKUP takes, where the backup of each begins, and of which kind it is.
 use Rattle.std.specs.Prelude.{MatchBool, ℕ, zero, suc, ◌≡◌, ◌==◌, ◌&&◌, ◌||◌, ◌+◌, ◌*◌, not, if◌then◌else◌, is_none, Bool, true, false, Option, Some, None, List, [], ◌∷◌, Contains, drop, length, map, sum_by, take}
-use Rattle.std.specs.List.{find, list_any}
-use Rattle.std.specs.Option.{option_and_then, option_map, option_map_or}
+use Rattle.std.specs.{List.{find, list_any}, Option.{option_and_then, option_map, option_map_or}}
 use Rattle.sha2.specs.Sha256.{sha256}
-use Rattle.rm_base.specs.declared.block.Row.{Row}
-use Rattle.rm_base.specs.declared.kinds.Kind.{Kind}
-use Rattle.rm_base.specs.declared.kinds.Kind.TheVariants as kind
-use Rattle.rm_base.specs.declared.kinds.Status.TheVariants.{Available}
+use Rattle.rm_base.specs.declared.{block.Row.{Row}, kinds.{Kind.{Kind, TheVariants as kind}, Status.TheVariants.{Available}}}
 use Rattle.rm_backup.specs.Parents.{IsParent}
-use Rattle.rm_catalog.specs.declared.record.SetEntry.{SetEntry}
-use Rattle.rm_catalog.specs.declared.record.SetPart.{SetPart}
+use Rattle.rm_catalog.specs.declared.record.{SetEntry.{SetEntry}, SetPart.{SetPart}}
 use Rattle.rm_lang_statement.specs.declared.command.BackupForm.{BackupForm}
-use Rattle.rm_history.specs.declared.world.Datafile.{Datafile}
-use Rattle.rm_history.specs.World.{exists, file_of}
+use Rattle.rm_history.specs.{World.{exists, file_of}, declared.world.Datafile.{Datafile}}
 use Rattle.rm_moments.specs.Text.{IsTag}
-use Rattle.rm_piece.specs.declared.set.Set.{Set}
-use Rattle.rm_piece.specs.declared.set.SetFile.{SetFile}
-use Rattle.rm_piece.specs.SetSpelling.{set_spelling, spelled}
-use Rattle.rm_piece.specs.Rows.{from_on}
-use Rattle.rm_report.specs.declared.line.Line.{Line}
-use Rattle.rm_report.specs.declared.line.Line.TheVariants.{NothingToBackUp}
+use Rattle.rm_piece.specs.{SetSpelling.{set_spelling, spelled}, Rows.{from_on}, declared.set.{Set.{Set}, SetFile.{SetFile}}}
+use Rattle.rm_report.specs.declared.line.Line.{Line, TheVariants.{NothingToBackUp}}
 use Rattle.rm_catalog_typed.specs.TypedCatalog.{records_of}
-use Rattle.rm_machine.specs.declared.job.Job.{Job}
-use Rattle.rm_machine.specs.declared.state.State.{State}
-use Rattle.rm_machine.specs.Marks.{set_bytes}
-use Rattle.rm_machine.specs.State.{ledger, world, current_of, now_of, on_path, placed}
-use Rattle.rm_machine.specs.Until.{or_else}
+use Rattle.rm_machine.specs.{Marks.{set_bytes}, State.{ledger, world, current_of, now_of, on_path, placed}, Until.{or_else}}
+use Rattle.rm_machine.specs.declared.{job.Job.{Job}, state.State.{State}}
 
 -- it asks for the datafile of this number: it names it, or it names none and asks for all
 abbrev pub asks_for : BackupForm → ℕ → Bool

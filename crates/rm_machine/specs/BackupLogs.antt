@@ -1,32 +1,17 @@
 -- BACKUP ARCHIVELOG ALL: of each archived log that is available a second object is made
 use Rattle.std.specs.Prelude.{ℕ, ◌≡◌, ◌+◌, ◌*◌, if◌then◌else◌, false, Option, Some, None, List, [], ◌∷◌, ◌++◌, filter, length, map, sum_by}
 use Rattle.std.specs.Option.{option_map_or}
-use Rattle.rm_base.specs.Store.{Held}
-use Rattle.rm_base.specs.declared.kinds.Bad.{Bad}
-use Rattle.rm_base.specs.declared.refusal.Limit.TheVariants.{Records, Bytes, ObjectIds}
-use Rattle.rm_base.specs.declared.refusal.Refusal.{Refusal}
-use Rattle.rm_base.specs.declared.refusal.Refusal.TheVariants.{Rm11}
-use Rattle.rm_catalog.specs.declared.record.LogEntry.{LogEntry}
-use Rattle.rm_catalog.specs.declared.record.Record.{Record}
-use Rattle.rm_catalog.specs.declared.record.Record.TheVariants.{Log}
+use Rattle.rm_base.specs.{Store.{Held}, declared.{kinds.Bad.{Bad}, refusal.Limit.TheVariants.{Records, Bytes, ObjectIds}}}
+use Rattle.rm_base.specs.declared.refusal.Refusal.{Refusal, TheVariants.{Rm11}}
+use Rattle.rm_catalog.specs.declared.record.{LogEntry.{LogEntry}, Record.{Record, TheVariants.{Log}}}
 use Rattle.rm_commit.specs.declared.commit.Object.{Object}
-use Rattle.rm_evidence.specs.Available.{IsSkipped}
-use Rattle.rm_evidence.specs.Gathered.{IsLogOf, Lists}
-use Rattle.rm_evidence.specs.Names.{log_name}
-use Rattle.rm_redo.specs.declared.log_file.LogFile.{LogFile}
-use Rattle.rm_redo.specs.LogFormat.{spelling}
-use Rattle.rm_report.specs.declared.line.Line.{Line}
-use Rattle.rm_report.specs.declared.line.Line.TheVariants.{LogMade}
-use Rattle.rm_catalog_typed.specs.Changes.{with_new_log}
-use Rattle.rm_catalog_typed.specs.TypedCatalog.{TypedCatalog}
-use Rattle.rm_machine.specs.Backup.{or_nothing}
-use Rattle.rm_machine.specs.Effect.{Effect, Made, Outcome, a_log, done, no_effect, refused}
-use Rattle.rm_machine.specs.Marks.{lacks_bytes, lacks_ids, lacks_room}
-use Rattle.rm_machine.specs.Recovery.{skipped_lines}
-use Rattle.rm_machine.specs.declared.state.State.{State}
-use Rattle.rm_machine.specs.State.{ledger}
-use Rattle.rm_machine.specs.SwitchLogfile.{log_entry}
-use Rattle.rm_machine.specs.Upkeep.{with_catalog}
+use Rattle.rm_evidence.specs.{Available.{IsSkipped}, Gathered.{IsLogOf, Lists}, Names.{log_name}}
+use Rattle.rm_redo.specs.{LogFormat.{spelling}, declared.log_file.LogFile.{LogFile}}
+use Rattle.rm_report.specs.declared.line.Line.{Line, TheVariants.{LogMade}}
+use Rattle.rm_catalog_typed.specs.{Changes.{with_new_log}, TypedCatalog.{TypedCatalog}}
+use Rattle.rm_machine.specs.{Backup.{or_nothing}, Effect.{Effect, Made, Outcome, a_log, done, no_effect, refused}}
+use Rattle.rm_machine.specs.{Marks.{lacks_bytes, lacks_ids, lacks_room}, Recovery.{skipped_lines}, State.{ledger}}
+use Rattle.rm_machine.specs.{SwitchLogfile.{log_entry}, Upkeep.{with_catalog}, declared.state.State.{State}}
 
 -- the records of archived logs among these: a backup of a log is not backed up again
 abbrev pub archived_in : List LogEntry → List Record

@@ -1,23 +1,14 @@
 -- BACKUP of datafiles: full, of level 0 or of level 1, while the database may write
 use Rattle.std.specs.Prelude.{ℕ, suc, ◌≡◌, Ok, List, [], ◌∷◌, ◌++◌, map}
 use Rattle.rm_base.specs.declared.block.Row.{Row}
-use Rattle.rm_channel.specs.Jobs.{AreAsLong, AreRows, deeds_of}
-use Rattle.rm_channel.specs.Made.{AreThese, deed}
-use Rattle.rm_live.specs.declared.history.Event.{Event}
-use Rattle.rm_live.specs.History.{IsLegal}
-use Rattle.rm_report.specs.declared.line.Line.{Line}
-use Rattle.rm_report.specs.declared.line.Line.TheVariants.{ThreadScn}
+use Rattle.rm_channel.specs.{Jobs.{AreAsLong, AreRows, deeds_of}, Made.{AreThese, deed}}
+use Rattle.rm_live.specs.{History.{IsLegal}, declared.history.Event.{Event}}
+use Rattle.rm_report.specs.declared.line.Line.{Line, TheVariants.{ThreadScn}}
 use Rattle.rm_lang_statement.specs.declared.command.BackupForm.{BackupForm}
-use Rattle.rm_machine.specs.Asked.{span_of, writers_of}
-use Rattle.rm_machine.specs.Backup.{AreJobs, IsTagBy, named_tag, or_nothing, taken}
-use Rattle.rm_machine.specs.Effect.{Effect, Outcome, done}
-use Rattle.rm_machine.specs.Events.{after_events, changes_of, opening}
-use Rattle.rm_machine.specs.MadeObjects.{Packed, after_objects, object_lines, objects_made, objects_put, packed}
-use Rattle.rm_machine.specs.Marks.{marked_for}
-use Rattle.rm_machine.specs.declared.job.Job.{Job}
-use Rattle.rm_machine.specs.declared.state.State.{State}
-use Rattle.rm_machine.specs.State.{ledger, now_of}
-use Rattle.rm_machine.specs.Tracked.{switch_all, with_tracker}
+use Rattle.rm_machine.specs.{Asked.{span_of, writers_of}, Backup.{AreJobs, IsTagBy, named_tag, or_nothing, taken}}
+use Rattle.rm_machine.specs.{Effect.{Effect, Outcome, done}, Events.{after_events, changes_of, opening}}
+use Rattle.rm_machine.specs.{MadeObjects.{Packed, after_objects, object_lines, objects_made, objects_put, packed}, Marks.{marked_for}}
+use Rattle.rm_machine.specs.{State.{ledger, now_of}, Tracked.{switch_all, with_tracker}, declared.{job.Job.{Job}, state.State.{State}}}
 
 -- the SCNs of the writes, thread by thread from t on
 abbrev pub write_lines : ℕ → List (List ℕ) → List Line

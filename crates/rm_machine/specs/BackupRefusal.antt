@@ -1,24 +1,16 @@
 -- Why a BACKUP of datafiles is refused.
 use Rattle.std.specs.Prelude.{ℕ, zero, suc, ◌+◌, ◌==◌, ◌||◌, nat_lt, nat_le, if◌then◌else◌, is_none, Bool, true, false, Option, Some, None, List, [], ◌∷◌, find, length, sum_by}
-use Rattle.std.specs.List.{list_any}
-use Rattle.std.specs.Option.{option_map, option_map_or}
-use Rattle.rm_base.specs.Numbers.{last_scn}
-use Rattle.rm_base.specs.declared.block.BlockId.{BlockId}
-use Rattle.rm_base.specs.declared.refusal.Absent.{Absent}
+use Rattle.std.specs.{List.{list_any}, Option.{option_map, option_map_or}}
+use Rattle.rm_base.specs.{Numbers.{last_scn}, declared.{block.BlockId.{BlockId}, refusal.Absent.{Absent}}}
 use Rattle.rm_base.specs.declared.refusal.Absent.TheVariants.{Thread, File, Block}
-use Rattle.rm_base.specs.declared.refusal.Limit.TheVariants.{Records, Bytes, ObjectIds, LogRecords}
-use Rattle.rm_base.specs.declared.refusal.Refusal.{Refusal}
+use Rattle.rm_base.specs.declared.refusal.{Limit.TheVariants.{Records, Bytes, ObjectIds, LogRecords}, Refusal.{Refusal}}
 use Rattle.rm_base.specs.declared.refusal.Refusal.TheVariants.{Rm04, Rm05, Rm09, Rm11, Rm15, Rm17}
 use Rattle.rm_history.specs.declared.world.Datafile.{Datafile}
 use Rattle.rm_redo.specs.Online.{thread_records}
-use Rattle.rm_lang_statement.specs.declared.command.BackupForm.{BackupForm}
-use Rattle.rm_lang_statement.specs.declared.command.WriteForm.{WriteForm}
-use Rattle.rm_machine.specs.Backup.{absent, lost_taken, object_bytes, objects_of, taken}
-use Rattle.rm_machine.specs.Damage.{has_block}
-use Rattle.rm_machine.specs.Marks.{lacks_bytes, lacks_ids, lacks_room, marks_before}
-use Rattle.rm_machine.specs.declared.state.State.{State}
-use Rattle.rm_machine.specs.State.{is_no_thread, now_of, on_path, placed}
-use Rattle.rm_machine.specs.Asked.{by_thread, writes_in}
+use Rattle.rm_lang_statement.specs.declared.command.{BackupForm.{BackupForm}, WriteForm.{WriteForm}}
+use Rattle.rm_machine.specs.{Backup.{absent, lost_taken, object_bytes, objects_of, taken}, Damage.{has_block}}
+use Rattle.rm_machine.specs.{Marks.{lacks_bytes, lacks_ids, lacks_room, marks_before}, State.{is_no_thread, now_of, on_path, placed}}
+use Rattle.rm_machine.specs.{Asked.{by_thread, writes_in}, declared.state.State.{State}}
 
 -- what a write names that is not there: its thread, its datafile on the current path, or its block, looked at in this order
 abbrev pub absent_in : State → WriteForm → Option Absent

@@ -1,32 +1,16 @@
 -- BLOCKRECOVER (CORRUPTION LIST | DATAFILE f BLOCK b {, b}*) [DURING { {write ;}* }]
-use Rattle.std.specs.Prelude.{ℕ, ◌≡◌, ◌⊎◌, ◌==◌, ◌&&◌, not, Bool, true, Ok, List, [], ◌∷◌, ◌++◌, filter, map}
-use Rattle.std.specs.List.{list_any}
+use Rattle.std.specs.{Prelude.{ℕ, ◌≡◌, ◌⊎◌, ◌==◌, ◌&&◌, not, Bool, true, Ok, List, [], ◌∷◌, ◌++◌, filter, map}, List.{list_any}}
 use Rattle.std.specs.Option.{option_map_or}
-use Rattle.rm_base.specs.Store.{Held}
-use Rattle.rm_base.specs.declared.block.BlockId.{BlockId}
-use Rattle.rm_base.specs.declared.block.Row.{Row}
-use Rattle.rm_base.specs.declared.refusal.Refusal.TheVariants.{Rm08}
-use Rattle.rm_channel.specs.Jobs.{AreAsLong, Deed, wrote_of}
-use Rattle.rm_channel.specs.Made.{AreThese, deed}
-use Rattle.rm_evidence.specs.declared.evidence.Evidence.{Evidence}
-use Rattle.rm_evidence.specs.Known.{known_of}
+use Rattle.rm_base.specs.{Store.{Held}, declared.{block.{BlockId.{BlockId}, Row.{Row}}, refusal.Refusal.TheVariants.{Rm08}}}
+use Rattle.rm_channel.specs.{Jobs.{AreAsLong, Deed, wrote_of}, Made.{AreThese, deed}}
+use Rattle.rm_evidence.specs.{Known.{known_of}, declared.evidence.Evidence.{Evidence}}
 use Rattle.rm_lang_statement.specs.declared.command.RepairForm.{RepairForm}
-use Rattle.rm_live.specs.declared.history.Answer.TheVariants.{Mended}
-use Rattle.rm_live.specs.declared.history.Call.TheVariants.{Mend}
-use Rattle.rm_live.specs.declared.history.Event.{Event}
-use Rattle.rm_live.specs.History.{IsLegal}
-use Rattle.rm_plan.specs.declared.plan.Gap.{Gap}
-use Rattle.rm_plan.specs.Blocks.{AreToldRows, NamesFirstOf}
-use Rattle.rm_report.specs.declared.line.Line.{Line}
-use Rattle.rm_report.specs.declared.line.Line.TheVariants as line
-use Rattle.rm_machine.specs.Asked.{writers_in}
-use Rattle.rm_machine.specs.BackupOutcome.{write_lines}
-use Rattle.rm_machine.specs.Effect.{Outcome, done, no_effect, refused}
-use Rattle.rm_machine.specs.Events.{after_events, changes_of, opening}
-use Rattle.rm_machine.specs.Marks.{marked_for}
-use Rattle.rm_machine.specs.Recovery.{IsAtHand, skipped_lines}
-use Rattle.rm_machine.specs.declared.state.State.{State}
-use Rattle.rm_machine.specs.State.{current_of, now_of, world}
+use Rattle.rm_live.specs.{History.{IsLegal}, declared.history.{Answer.TheVariants.{Mended}, Call.TheVariants.{Mend}, Event.{Event}}}
+use Rattle.rm_plan.specs.{Blocks.{AreToldRows, NamesFirstOf}, declared.plan.Gap.{Gap}}
+use Rattle.rm_report.specs.declared.line.Line.{Line, TheVariants as line}
+use Rattle.rm_machine.specs.{Asked.{writers_in}, BackupOutcome.{write_lines}, Effect.{Outcome, done, no_effect, refused}}
+use Rattle.rm_machine.specs.{Events.{after_events, changes_of, opening}, Marks.{marked_for}, Recovery.{IsAtHand, skipped_lines}}
+use Rattle.rm_machine.specs.{State.{current_of, now_of, world}, declared.state.State.{State}}
 
 -- it mends the block, where that is damaged: it names the block, or asks for all
 abbrev pub asks_for : RepairForm → BlockId → Bool

@@ -1,21 +1,13 @@
 -- Why a BLOCKRECOVER is refused.
 use Rattle.std.specs.Prelude.{ℕ, ◌+◌, not, nat_lt, nat_le, if◌then◌else◌, is_none, true, Option, Some, None, find, length}
 use Rattle.std.specs.Option.{option_and_then, option_map, option_map_or}
-use Rattle.rm_base.specs.Numbers.{last_scn}
-use Rattle.rm_base.specs.declared.refusal.Absent.{Absent}
-use Rattle.rm_base.specs.declared.refusal.Absent.TheVariants as absent
-use Rattle.rm_base.specs.declared.refusal.Limit.TheVariants.{Records, ObjectIds, LogRecords}
-use Rattle.rm_base.specs.declared.refusal.Refusal.{Refusal}
+use Rattle.rm_base.specs.{Numbers.{last_scn}, declared.refusal.Absent.{Absent, TheVariants as absent}}
+use Rattle.rm_base.specs.declared.refusal.{Limit.TheVariants.{Records, ObjectIds, LogRecords}, Refusal.{Refusal}}
 use Rattle.rm_base.specs.declared.refusal.Refusal.TheVariants.{Rm04, Rm05, Rm09, Rm11, Rm15, Rm17, Rm18}
 use Rattle.rm_history.specs.declared.world.Datafile.{Datafile}
-use Rattle.rm_lang_statement.specs.declared.command.NamedBlocks.{NamedBlocks}
-use Rattle.rm_lang_statement.specs.declared.command.RepairForm.{RepairForm}
-use Rattle.rm_machine.specs.Asked.{asked}
-use Rattle.rm_machine.specs.BackupRefusal.{absent_of, damaged_write, lacks_logs, lost_of, marks_for}
-use Rattle.rm_machine.specs.Damage.{has_block}
-use Rattle.rm_machine.specs.Marks.{lacks_ids, lacks_room}
-use Rattle.rm_machine.specs.declared.state.State.{State}
-use Rattle.rm_machine.specs.State.{now_of, on_path, placed}
+use Rattle.rm_lang_statement.specs.declared.command.{NamedBlocks.{NamedBlocks}, RepairForm.{RepairForm}}
+use Rattle.rm_machine.specs.{Asked.{asked}, BackupRefusal.{absent_of, damaged_write, lacks_logs, lost_of, marks_for}, Damage.{has_block}}
+use Rattle.rm_machine.specs.{Marks.{lacks_ids, lacks_room}, State.{now_of, on_path, placed}, declared.state.State.{State}}
 
 -- what it names that is not there: its datafile on the current path, or else the least block that is not one of it
 abbrev pub absent_named : State → NamedBlocks → Option Absent

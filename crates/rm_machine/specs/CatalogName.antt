@@ -1,29 +1,18 @@
 -- CATALOG 'name': an object of which no record tells gets one
 use Rattle.std.specs.Prelude.{ℕ, ◌≡◌, ◌⊎◌, ◌+◌, ◌-◌, ◌<◌, ◌≤◌, max, if◌then◌else◌, Bool, true, false, Option, Some, None, MatchOption, List, [], ◌∷◌, codes, length, slice_get}
 use Rattle.std.specs.Option.{option_map_or}
-use Rattle.rm_base.specs.Store.{Held}
-use Rattle.rm_base.specs.declared.refusal.Limit.TheVariants.{Records, Bytes, ObjectIds}
-use Rattle.rm_base.specs.declared.refusal.Refusal.{Refusal}
-use Rattle.rm_base.specs.declared.refusal.Refusal.TheVariants.{Rm11, Rm12, Rm13}
-use Rattle.rm_base.specs.declared.refusal.Unknown.TheVariants.{Object}
-use Rattle.rm_history.specs.Tree.{end_of}
-use Rattle.rm_history.specs.declared.world.Datafile.{Datafile}
-use Rattle.rm_evidence.specs.Names.{log_name, piece_name}
-use Rattle.rm_evidence.specs.Objects.{piece_entry}
+use Rattle.rm_base.specs.{Store.{Held}, declared.refusal.{Limit.TheVariants.{Records, Bytes, ObjectIds}, Refusal.{Refusal}}}
+use Rattle.rm_base.specs.declared.refusal.{Refusal.TheVariants.{Rm11, Rm12, Rm13}, Unknown.TheVariants.{Object}}
+use Rattle.rm_history.specs.{Tree.{end_of}, declared.world.Datafile.{Datafile}}
+use Rattle.rm_evidence.specs.{Names.{log_name, piece_name}, Objects.{piece_entry}}
 use Rattle.rm_piece.specs.declared.piece.Piece.{Piece}
 use Rattle.rm_redo.specs.declared.log_file.LogFile.{LogFile}
 use Rattle.rm_report.specs.declared.line.Line.TheVariants.{Catalogued}
-use Rattle.rm_catalog_typed.specs.Changes.{with_base, with_end_at, with_log, with_piece}
-use Rattle.rm_catalog_typed.specs.LedgerFacts.{IsLogEntry, IsPieceEntry}
+use Rattle.rm_catalog_typed.specs.{Changes.{with_base, with_end_at, with_log, with_piece}, LedgerFacts.{IsLogEntry, IsPieceEntry}}
 use Rattle.rm_catalog_typed.specs.TypedCatalog.{TypedCatalog}
-use Rattle.rm_machine.specs.Effect.{Artefact, Effect, Outcome, a_log, a_piece, done, no_effect, refused}
-use Rattle.rm_machine.specs.Machine.{IsValidArtefact}
-use Rattle.rm_machine.specs.Marks.{lacks_bytes, lacks_ids, lacks_room}
-use Rattle.rm_machine.specs.Saved.{spelling_of}
-use Rattle.rm_machine.specs.State.{ledger, tree}
-use Rattle.rm_machine.specs.SwitchLogfile.{log_entry}
-use Rattle.rm_machine.specs.Upkeep.{is_unknown, with_catalog}
-use Rattle.rm_machine.specs.declared.state.State.{State}
+use Rattle.rm_machine.specs.{Effect.{Artefact, Effect, Outcome, a_log, a_piece, done, no_effect, refused}, Machine.{IsValidArtefact}}
+use Rattle.rm_machine.specs.{Marks.{lacks_bytes, lacks_ids, lacks_room}, Saved.{spelling_of}, State.{ledger, tree}}
+use Rattle.rm_machine.specs.{SwitchLogfile.{log_entry}, Upkeep.{is_unknown, with_catalog}, declared.state.State.{State}}
 
 -- The names of objects
 

@@ -1,19 +1,12 @@
 -- CONFIGURE: the retention policy, and how many channels there are
 use Rattle.std.specs.Prelude.{ℕ, ◌≡◌, nat_lt, if◌then◌else◌, Option, Some, None, [], ◌∷◌}
-use Rattle.rm_base.specs.declared.kinds.Policy.{Policy}
-use Rattle.rm_base.specs.declared.kinds.Policy.TheVariants as policy
-use Rattle.rm_base.specs.declared.refusal.Refusal.{Refusal}
-use Rattle.rm_base.specs.declared.refusal.Refusal.TheVariants.{Rm11}
+use Rattle.rm_base.specs.declared.{kinds.Policy.{Policy, TheVariants as policy}, refusal.Refusal.{Refusal, TheVariants.{Rm11}}}
 use Rattle.rm_base.specs.declared.refusal.Limit.TheVariants as limit
 use Rattle.rm_report.specs.declared.line.Line.TheVariants as line
-use Rattle.rm_catalog_typed.specs.Changes.{with_base}
-use Rattle.rm_catalog_typed.specs.TypedCatalog.{TypedCatalog}
-use Rattle.rm_lang_statement.specs.declared.command.RetentionForm.{RetentionForm}
-use Rattle.rm_lang_statement.specs.declared.command.RetentionForm.TheVariants.{Clear, Nothing, Redundancy, Window}
-use Rattle.rm_machine.specs.Effect.{Outcome, done, no_effect}
-use Rattle.rm_machine.specs.Marks.{ids_refusal, lacks_ids}
+use Rattle.rm_catalog_typed.specs.{Changes.{with_base}, TypedCatalog.{TypedCatalog}}
+use Rattle.rm_lang_statement.specs.declared.command.RetentionForm.{RetentionForm, TheVariants.{Clear, Nothing, Redundancy, Window}}
+use Rattle.rm_machine.specs.{Effect.{Outcome, done, no_effect}, Marks.{ids_refusal, lacks_ids}, Upkeep.{with_catalog}}
 use Rattle.rm_machine.specs.declared.state.State.{State}
-use Rattle.rm_machine.specs.Upkeep.{with_catalog}
 
 -- the policy that a form asks for; CLEAR is that of a new database
 abbrev pub policy_of : RetentionForm → Policy

@@ -1,21 +1,11 @@
 -- HOST CORRUPT DATAFILE f BLOCK b, and LIST CORRUPTION
-use Rattle.std.specs.Prelude.{ℕ, ◌≡◌, ◌-◌, nat_le, if◌then◌else◌, is_none, true, Option, Some, List, [], ◌∷◌, map}
-use Rattle.std.specs.Option.{option_map_or}
-use Rattle.rm_base.specs.declared.block.Block.{Block}
-use Rattle.rm_base.specs.declared.block.Row.{Row}
-use Rattle.rm_base.specs.declared.refusal.Refusal.{Refusal}
-use Rattle.rm_base.specs.declared.refusal.Refusal.TheVariants.{Rm04, Rm05, Rm09}
+use Rattle.std.specs.{Prelude.{ℕ, ◌≡◌, ◌-◌, nat_le, if◌then◌else◌, is_none, true, Option, Some, List, [], ◌∷◌, map}, Option.{option_map_or}}
+use Rattle.rm_base.specs.declared.{block.{Block.{Block}, Row.{Row}}, refusal.Refusal.{Refusal, TheVariants.{Rm04, Rm05, Rm09}}}
 use Rattle.rm_base.specs.declared.refusal.Absent.TheVariants as absent
 use Rattle.rm_history.specs.declared.world.Datafile.{Datafile}
-use Rattle.rm_report.specs.declared.line.Line.{Line}
-use Rattle.rm_report.specs.declared.line.Line.TheVariants.{BlockDamaged}
-use Rattle.rm_machine.specs.Damage.{has_block, with_block}
-use Rattle.rm_machine.specs.Dump.{placed_row}
-use Rattle.rm_machine.specs.Effect.{Outcome, done, no_effect, told}
-use Rattle.rm_machine.specs.Events.{with_placed_row}
-use Rattle.rm_machine.specs.Marks.{ids_refusal}
-use Rattle.rm_machine.specs.declared.state.State.{State}
-use Rattle.rm_machine.specs.State.{on_path, placed}
+use Rattle.rm_report.specs.declared.line.Line.{Line, TheVariants.{BlockDamaged}}
+use Rattle.rm_machine.specs.{Damage.{has_block, with_block}, Dump.{placed_row}, Effect.{Outcome, done, no_effect, told}}
+use Rattle.rm_machine.specs.{Events.{with_placed_row}, Marks.{ids_refusal}, State.{on_path, placed}, declared.state.State.{State}}
 
 -- why it is refused, where its datafile is there: its block is not, the datafile is lost, or no ids are left
 abbrev pub corrupt_block_refusal : State → ℕ → ℕ → Datafile → Option Refusal

@@ -1,14 +1,10 @@
 -- CREATE DATABASE DBID d THREADS n SCN s
 use Rattle.std.specs.Prelude.{ℕ, ◌≡◌, nat_lt, if◌then◌else◌, true, Some, None, [], ◌∷◌}
-use Rattle.rm_base.specs.Store.{Held}
-use Rattle.rm_base.specs.declared.refusal.Refusal.TheVariants.{Rm11}
-use Rattle.rm_base.specs.declared.refusal.Limit.TheVariants.{Threads}
+use Rattle.rm_base.specs.{Store.{Held}, declared.refusal.{Refusal.TheVariants.{Rm11}, Limit.TheVariants.{Threads}}}
 use Rattle.rm_catalog_typed.specs.Fresh.{fresh}
 use Rattle.rm_redo.specs.Online.{fresh_logs}
 use Rattle.rm_report.specs.declared.line.Line.TheVariants.{DatabaseAt}
-use Rattle.rm_machine.specs.Effect.{Outcome, refused, done, no_effect}
-use Rattle.rm_machine.specs.Machine.{Machine}
-use Rattle.rm_machine.specs.declared.state.State.{State}
+use Rattle.rm_machine.specs.{Effect.{Outcome, refused, done, no_effect}, Machine.{Machine}, declared.state.State.{State}}
 
 -- a new database, which is open
 abbrev pub fresh_state : (dbid threads scn moment : ℕ) → State

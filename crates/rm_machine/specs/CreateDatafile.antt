@@ -1,19 +1,14 @@
 -- CREATE DATAFILE BLOCKS n
 use Rattle.std.specs.Prelude.{ℕ, ◌≡◌, ◌+◌, nat_lt, nat_le, if◌then◌else◌, true, Option, Some, None, List, [], ◌∷◌, ◌++◌, length, sum_by}
-use Rattle.rm_base.specs.Numbers.{last_scn}
-use Rattle.rm_base.specs.declared.refusal.Refusal.{Refusal}
-use Rattle.rm_base.specs.declared.refusal.Refusal.TheVariants.{Rm04, Rm11, Rm15}
+use Rattle.rm_base.specs.{Numbers.{last_scn}, declared.refusal.Refusal.{Refusal, TheVariants.{Rm04, Rm11, Rm15}}}
 use Rattle.rm_base.specs.declared.refusal.Limit.TheVariants.{Files, FileBlocks, Blocks, Records, ObjectIds}
 use Rattle.rm_blocks.specs.File.{created}
 use Rattle.rm_history.specs.declared.world.Datafile.{Datafile}
 use Rattle.rm_report.specs.declared.line.Line.TheVariants.{DatafileAt}
 use Rattle.rm_track.specs.Bitmaps.{Tracked, fresh, with_file as with_tracked}
 use Rattle.rm_catalog_typed.specs.Changes.{with_file}
-use Rattle.rm_machine.specs.Effect.{Outcome, done, no_effect}
-use Rattle.rm_machine.specs.Marks.{lacks_ids, lacks_room, marks_before, one_further}
-use Rattle.rm_machine.specs.declared.state.State.{State}
-use Rattle.rm_machine.specs.State.{ledger, current_of, now_of}
-use Rattle.rm_machine.specs.Tracked.{tracks}
+use Rattle.rm_machine.specs.{Effect.{Outcome, done, no_effect}, Marks.{lacks_ids, lacks_room, marks_before, one_further}}
+use Rattle.rm_machine.specs.{State.{ledger, current_of, now_of}, Tracked.{tracks}, declared.state.State.{State}}
 
 -- why it is refused in an open database
 abbrev pub room_refusal : State → ℕ → Option Refusal

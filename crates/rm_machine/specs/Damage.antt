@@ -3,8 +3,7 @@ use Rattle.std.specs.Prelude.{ℕ, ◌≡◌, ◌+◌, ◌<◌, ◌==◌, ◌&&�
 use Rattle.std.specs.List.{list_any}
 use Rattle.rm_base.specs.declared.block.BlockId.{BlockId}
 use Rattle.rm_blocks.specs.File.{File}
-use Rattle.rm_machine.specs.declared.state.State.{State}
-use Rattle.rm_machine.specs.State.{on_path, placed}
+use Rattle.rm_machine.specs.{State.{on_path, placed}, declared.state.State.{State}}
 
 -- block b of datafile f is on the list
 abbrev pub has_block : List BlockId → ℕ → ℕ → Bool

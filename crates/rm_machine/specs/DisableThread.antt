@@ -1,24 +1,15 @@
 -- ALTER DATABASE DISABLE THREAD t
 use Rattle.std.specs.Prelude.{ℕ, ◌≡◌, ◌+◌, ◌==◌, ◌&&◌, not, nat_le, if◌then◌else◌, Bool, true, false, Option, Some, None, List, [], ◌∷◌, ◌++◌, length}
 use Rattle.std.specs.List.{list_any}
-use Rattle.rm_base.specs.Numbers.{last_scn}
-use Rattle.rm_base.specs.declared.refusal.Absent.TheVariants.{Thread}
-use Rattle.rm_base.specs.declared.refusal.Limit.TheVariants.{Bytes, ObjectIds, Records, Sequences}
-use Rattle.rm_base.specs.declared.refusal.Refusal.{Refusal}
-use Rattle.rm_base.specs.declared.refusal.Refusal.TheVariants.{Rm04, Rm05, Rm11, Rm15, Rm16}
-use Rattle.rm_base.specs.declared.refusal.ThreadState.TheVariants.{Disabled, Last}
+use Rattle.rm_base.specs.{Numbers.{last_scn}, declared.refusal.Absent.TheVariants.{Thread}}
+use Rattle.rm_base.specs.declared.refusal.{Limit.TheVariants.{Bytes, ObjectIds, Records, Sequences}, Refusal.{Refusal}}
+use Rattle.rm_base.specs.declared.refusal.{Refusal.TheVariants.{Rm04, Rm05, Rm11, Rm15, Rm16}, ThreadState.TheVariants.{Disabled, Last}}
 use Rattle.rm_redo.specs.Online.{has_log, sequence_of, with_disabled}
-use Rattle.rm_report.specs.declared.line.Line.{Line}
-use Rattle.rm_report.specs.declared.line.Line.TheVariants.{ThreadSwitched}
-use Rattle.rm_catalog_typed.specs.declared.thread_switch.ThreadSwitch.{ThreadSwitch}
-use Rattle.rm_catalog_typed.specs.Changes.{with_switch}
-use Rattle.rm_machine.specs.Archive.{after_thread, made_by, puts_by, thread_lines}
-use Rattle.rm_machine.specs.Effect.{Effect, Outcome, done, no_effect}
-use Rattle.rm_machine.specs.EnableThread.{is_outside}
-use Rattle.rm_machine.specs.Marks.{lacks_bytes, lacks_ids, lacks_room, marks_before, one_further}
-use Rattle.rm_machine.specs.declared.state.State.{State}
-use Rattle.rm_machine.specs.State.{current_of, now_of}
-use Rattle.rm_machine.specs.SwitchLogfile.{is_due, log_bytes}
+use Rattle.rm_report.specs.declared.line.Line.{Line, TheVariants.{ThreadSwitched}}
+use Rattle.rm_catalog_typed.specs.{Changes.{with_switch}, declared.thread_switch.ThreadSwitch.{ThreadSwitch}}
+use Rattle.rm_machine.specs.{Archive.{after_thread, made_by, puts_by, thread_lines}, Effect.{Effect, Outcome, done, no_effect}}
+use Rattle.rm_machine.specs.{EnableThread.{is_outside}, Marks.{lacks_bytes, lacks_ids, lacks_room, marks_before, one_further}}
+use Rattle.rm_machine.specs.{State.{current_of, now_of}, SwitchLogfile.{is_due, log_bytes}, declared.state.State.{State}}
 
 -- how many logs it archives: that of the thread, where it has something to archive
 abbrev pub logs_due : State → ℕ → ℕ

@@ -1,16 +1,11 @@
 -- DUMP DATAFILE f BLOCK b
 use Rattle.std.specs.Prelude.{ℕ, ◌≡◌, nat_le, if◌then◌else◌, is_none, Option, Some, None, [], ◌∷◌, slice_get}
 use Rattle.std.specs.Option.{option_and_then, option_map_or}
-use Rattle.rm_base.specs.declared.block.Row.{Row}
-use Rattle.rm_base.specs.declared.refusal.Refusal.{Refusal}
-use Rattle.rm_base.specs.declared.refusal.Refusal.TheVariants.{Rm05, Rm09, Rm17}
+use Rattle.rm_base.specs.declared.{block.Row.{Row}, refusal.Refusal.{Refusal, TheVariants.{Rm05, Rm09, Rm17}}}
 use Rattle.rm_base.specs.declared.refusal.Absent.TheVariants.{File, Block}
 use Rattle.rm_history.specs.declared.world.Datafile.{Datafile}
 use Rattle.rm_report.specs.declared.line.Line.TheVariants.{Dumped}
-use Rattle.rm_machine.specs.Damage.{has_block}
-use Rattle.rm_machine.specs.Effect.{Outcome, told}
-use Rattle.rm_machine.specs.declared.state.State.{State}
-use Rattle.rm_machine.specs.State.{on_path, placed}
+use Rattle.rm_machine.specs.{Damage.{has_block}, Effect.{Outcome, told}, State.{on_path, placed}, declared.state.State.{State}}
 
 -- why it is refused, where its datafile is there
 abbrev pub row_refusal : State → ℕ → ℕ → Datafile → Option Refusal

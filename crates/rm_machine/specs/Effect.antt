@@ -1,12 +1,8 @@
 -- What a statement comes to, and what it leaves outside.
 use Rattle.std.specs.Prelude.{ℕ, List, []}
-use Rattle.rm_base.specs.Store.{Held}
-use Rattle.rm_base.specs.declared.block.Change.{Change}
-use Rattle.rm_base.specs.declared.refusal.Refusal.{Refusal}
-use Rattle.rm_commit.specs.declared.commit.Object.{Object}
-use Rattle.rm_commit.specs.Names.{HasPuts, HasRemoves}
-use Rattle.rm_piece.specs.declared.piece.Piece.{Piece}
-use Rattle.rm_piece.specs.declared.set.Set.{Set}
+use Rattle.rm_base.specs.{Store.{Held}, declared.{block.Change.{Change}, refusal.Refusal.{Refusal}}}
+use Rattle.rm_commit.specs.{Names.{HasPuts, HasRemoves}, declared.commit.Object.{Object}}
+use Rattle.rm_piece.specs.declared.{piece.Piece.{Piece}, set.Set.{Set}}
 use Rattle.rm_redo.specs.declared.log_file.LogFile.{LogFile}
 use Rattle.rm_report.specs.declared.line.Line.{Line}
 use Rattle.rm_machine.specs.declared.state.State.{State}

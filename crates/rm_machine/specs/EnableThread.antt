@@ -1,20 +1,12 @@
 -- ALTER DATABASE ENABLE THREAD t
 use Rattle.std.specs.Prelude.{ℕ, ◌≡◌, ◌+◌, ◌==◌, ◌||◌, nat_lt, nat_le, if◌then◌else◌, Bool, true, Option, Some, None, [], ◌∷◌, length}
-use Rattle.rm_base.specs.Numbers.{last_scn}
-use Rattle.rm_base.specs.declared.refusal.Absent.TheVariants.{Thread}
-use Rattle.rm_base.specs.declared.refusal.Limit.TheVariants.{ObjectIds, Records}
-use Rattle.rm_base.specs.declared.refusal.Refusal.{Refusal}
-use Rattle.rm_base.specs.declared.refusal.Refusal.TheVariants.{Rm04, Rm05, Rm11, Rm15, Rm16}
-use Rattle.rm_base.specs.declared.refusal.ThreadState.TheVariants.{Enabled}
+use Rattle.rm_base.specs.{Numbers.{last_scn}, declared.refusal.{Absent.TheVariants.{Thread}, Limit.TheVariants.{ObjectIds, Records}}}
+use Rattle.rm_base.specs.declared.refusal.{Refusal.{Refusal, TheVariants.{Rm04, Rm05, Rm11, Rm15, Rm16}}, ThreadState.TheVariants.{Enabled}}
 use Rattle.rm_redo.specs.Online.{has_log, with_enabled}
 use Rattle.rm_report.specs.declared.line.Line.TheVariants.{ThreadSwitched}
-use Rattle.rm_catalog_typed.specs.declared.thread_switch.ThreadSwitch.{ThreadSwitch}
-use Rattle.rm_catalog_typed.specs.Changes.{with_switch}
-use Rattle.rm_catalog_typed.specs.Switches.{next_sequence}
-use Rattle.rm_machine.specs.Effect.{Outcome, done, no_effect}
-use Rattle.rm_machine.specs.Marks.{lacks_ids, lacks_room, marks_before, one_further}
-use Rattle.rm_machine.specs.declared.state.State.{State}
-use Rattle.rm_machine.specs.State.{current_of, ledger, now_of}
+use Rattle.rm_catalog_typed.specs.{Changes.{with_switch}, Switches.{next_sequence}, declared.thread_switch.ThreadSwitch.{ThreadSwitch}}
+use Rattle.rm_machine.specs.{Effect.{Outcome, done, no_effect}, Marks.{lacks_ids, lacks_room, marks_before, one_further}}
+use Rattle.rm_machine.specs.{State.{current_of, ledger, now_of}, declared.state.State.{State}}
 
 -- no redo thread can have this number
 abbrev pub is_outside : ℕ → Bool

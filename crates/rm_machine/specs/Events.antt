@@ -1,21 +1,11 @@
 -- The database of a state as its channels and writers find it, and what their events leave of the state.
-use Rattle.std.specs.Prelude.{ℕ, ◌-◌, true, false, Ok, Err, List, [], ◌∷◌, ◌++◌, slice_set}
-use Rattle.std.specs.List.{filter_map}
-use Rattle.std.specs.Option.{option_map}
-use Rattle.rm_base.specs.declared.block.Block.{Block}
-use Rattle.rm_base.specs.declared.block.Change.{Change}
-use Rattle.rm_base.specs.declared.block.Row.{Row}
+use Rattle.std.specs.{Prelude.{ℕ, ◌-◌, true, false, Ok, Err, List, [], ◌∷◌, ◌++◌, slice_set}, List.{filter_map}, Option.{option_map}}
+use Rattle.rm_base.specs.declared.block.{Block.{Block}, Change.{Change}, Row.{Row}}
 use Rattle.rm_blocks.specs.File.{File, put}
-use Rattle.rm_live.specs.declared.history.Answer.{Answer}
-use Rattle.rm_live.specs.declared.history.Answer.TheVariants.{Found, Mended, Wrote}
-use Rattle.rm_live.specs.declared.history.Call.{Call}
-use Rattle.rm_live.specs.declared.history.Call.TheVariants.{Mend, Read, Write}
-use Rattle.rm_live.specs.declared.history.Event.{Event}
-use Rattle.rm_live.specs.Parts.{Parts}
+use Rattle.rm_live.specs.{Parts.{Parts}, declared.history.{Answer.{Answer, TheVariants.{Found, Mended, Wrote}}, Call.{Call}}}
+use Rattle.rm_live.specs.declared.history.{Call.TheVariants.{Mend, Read, Write}, Event.{Event}}
 use Rattle.rm_lang_statement.specs.declared.command.WriteForm.{WriteForm}
-use Rattle.rm_machine.specs.declared.state.State.{State}
-use Rattle.rm_machine.specs.State.{current_of, now_of, placed}
-use Rattle.rm_machine.specs.Write.{change_of, with_write}
+use Rattle.rm_machine.specs.{State.{current_of, now_of, placed}, Write.{change_of, with_write}, declared.state.State.{State}}
 
 -- the datafiles that stand in place
 abbrev pub standing_in : State → List File

@@ -1,13 +1,9 @@
 -- What a statement hands out, to be carried out, and what one tells.
 use Rattle.std.specs.Prelude.{◌≡◌, Option, Some, List}
-use Rattle.rm_base.specs.Store.{Held}
+use Rattle.rm_base.specs.{Store.{Held}, declared.refusal.Refusal.{Refusal}}
 use Rattle.rm_lang_statement.specs.declared.command.Command.{Command}
 use Rattle.rm_report.specs.declared.line.Line.{Line}
-use Rattle.rm_machine.specs.Effect.{Effect, done, refused, told}
-use Rattle.rm_base.specs.declared.refusal.Refusal.{Refusal}
-use Rattle.rm_machine.specs.Step.{IsDone}
-use Rattle.rm_machine.specs.declared.handed.Handed.{Handed}
-use Rattle.rm_machine.specs.declared.state.State.{State}
+use Rattle.rm_machine.specs.{Effect.{Effect, done, refused, told}, Step.{IsDone}, declared.{handed.Handed.{Handed}, state.State.{State}}}
 
 -- Where the store tells what it holds, the statement comes to these lines, this effect and the state t; the
 -- objects that come and go are those of the effect.

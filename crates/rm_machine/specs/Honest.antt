@@ -1,14 +1,9 @@
 -- What is asked of the world at a statement, from a machine.
 use Rattle.std.specs.Prelude.{ℕ, ◌≡◌, Some, List, Contains}
-use Rattle.rm_lang_statement.specs.declared.command.Command.{Command}
-use Rattle.rm_lang_statement.specs.declared.command.Command.TheVariants.{CatalogName}
+use Rattle.rm_lang_statement.specs.declared.command.Command.{Command, TheVariants.{CatalogName}}
 use Rattle.rm_report.specs.declared.line.Line.{Line}
-use Rattle.rm_machine.specs.Effect.{Effect, Made, done}
-use Rattle.rm_machine.specs.Machine.{DigestsTell, Machine}
-use Rattle.rm_machine.specs.Saved.{spelling_of}
-use Rattle.rm_machine.specs.Step.{IsOutcome}
-use Rattle.rm_machine.specs.declared.state.State.{State}
-use Rattle.rm_machine.specs.State.{at_moment}
+use Rattle.rm_machine.specs.{Effect.{Effect, Made, done}, Machine.{DigestsTell, Machine}, Saved.{spelling_of}, Step.{IsOutcome}}
+use Rattle.rm_machine.specs.{State.{at_moment}, declared.state.State.{State}}
 
 -- the bytes are the spelling of an artefact that a finished statement recorded
 pub record IsRecorded (made : List Made) (bytes : List ℕ) : Type 0 where

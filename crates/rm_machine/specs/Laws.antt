@@ -1,18 +1,11 @@
 -- What each statement keeps.
 use Rattle.std.specs.Prelude.{ℕ, ◌≡◌, ◌≤◌, Bool, Some, None, List}
-use Rattle.rm_base.specs.Numbers.{last_moment}
-use Rattle.rm_base.specs.Store.{Held}
+use Rattle.rm_base.specs.{Numbers.{last_moment}, Store.{Held}}
 use Rattle.rm_lang_statement.specs.declared.command.Command.{Command}
-use Rattle.rm_report.specs.declared.line.Line.{Line}
-use Rattle.rm_report.specs.Reply.{said}
-use Rattle.rm_machine.specs.Effect.{Effect, LeavesObjects, done, told}
-use Rattle.rm_machine.specs.Honest.{IsHonest}
-use Rattle.rm_machine.specs.Machine.{Machine, IsSoundMachine}
-use Rattle.rm_machine.specs.Nature.{nature_of, tells}
-use Rattle.rm_machine.specs.Sound.{IsSound}
-use Rattle.rm_machine.specs.declared.state.State.{State}
-use Rattle.rm_machine.specs.State.{ledger, at_moment}
-use Rattle.rm_machine.specs.Step.{IsStatement, IsOutcome, StepBy, and_drops}
+use Rattle.rm_report.specs.{Reply.{said}, declared.line.Line.{Line}}
+use Rattle.rm_machine.specs.{Effect.{Effect, LeavesObjects, done, told}, Honest.{IsHonest}, Machine.{Machine, IsSoundMachine}}
+use Rattle.rm_machine.specs.{Nature.{nature_of, tells}, Sound.{IsSound}, State.{ledger, at_moment}}
+use Rattle.rm_machine.specs.{Step.{IsStatement, IsOutcome, StepBy, and_drops}, declared.state.State.{State}}
 
 -- the moment is one of a statement: none that was kept is later, and it is not past the last
 pub record IsMomentOf (s : State) (moment : ℕ) : Type 0 where

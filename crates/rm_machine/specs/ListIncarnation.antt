@@ -1,12 +1,8 @@
 -- LIST INCARNATION
 use Rattle.std.specs.Prelude.{ℕ, zero, suc, ◌≡◌, ◌+◌, List, [], ◌∷◌, length}
-use Rattle.rm_history.specs.declared.tree.Incarnation.{Incarnation}
-use Rattle.rm_history.specs.Tree.{parent_of, reset_of, end_of, standing}
-use Rattle.rm_report.specs.declared.line.Line.{Line}
-use Rattle.rm_report.specs.declared.line.Line.TheVariants.{IncarnationIs}
-use Rattle.rm_machine.specs.Effect.{Outcome, told}
-use Rattle.rm_machine.specs.declared.state.State.{State}
-use Rattle.rm_machine.specs.State.{tree, current_of}
+use Rattle.rm_history.specs.{Tree.{parent_of, reset_of, end_of, standing}, declared.tree.Incarnation.{Incarnation}}
+use Rattle.rm_report.specs.declared.line.Line.{Line, TheVariants.{IncarnationIs}}
+use Rattle.rm_machine.specs.{Effect.{Outcome, told}, State.{tree, current_of}, declared.state.State.{State}}
 
 -- the line of an incarnation: its parent, its resetlogs SCN, its end, and how it stands to the current one
 abbrev pub incarnation_line : List Incarnation → ℕ → ℕ → Line

@@ -1,24 +1,13 @@
 -- LIST BACKUP, LIST COPY and LIST ARCHIVELOG ALL
-use Rattle.std.specs.Prelude.{ℕ, ◌≡◌, if◌then◌else◌, Bool, Option, Some, None, List, [], ◌∷◌, map, Contains}
-use Rattle.std.specs.List.{flat_map}
-use Rattle.rm_base.specs.declared.kinds.Class.{Class}
-use Rattle.rm_base.specs.declared.kinds.Kind.{Kind}
-use Rattle.rm_base.specs.declared.kinds.Kind.TheVariants as kind
-use Rattle.rm_catalog.specs.declared.record.Record.{Record}
-use Rattle.rm_catalog.specs.declared.record.Record.TheVariants.{Log, Piece, Set}
-use Rattle.rm_catalog.specs.declared.record.SetEntry.{SetEntry}
-use Rattle.rm_catalog.specs.declared.record.SetPart.{SetPart}
+use Rattle.std.specs.{Prelude.{ℕ, ◌≡◌, if◌then◌else◌, Bool, Option, Some, None, List, [], ◌∷◌, map, Contains}, List.{flat_map}}
+use Rattle.rm_base.specs.declared.kinds.{Class.{Class}, Kind.{Kind, TheVariants as kind}}
+use Rattle.rm_catalog.specs.declared.record.{Record.{Record, TheVariants.{Log, Piece, Set}}, SetEntry.{SetEntry}, SetPart.{SetPart}}
 use Rattle.rm_evidence.specs.Gathered.{Lists}
-use Rattle.rm_report.specs.declared.line.Line.{Line}
-use Rattle.rm_report.specs.declared.line.Line.TheVariants.{LogIs, PieceIs}
-use Rattle.rm_report.specs.declared.line.Packing.{Packing}
-use Rattle.rm_report.specs.declared.line.Packing.TheVariants as packing
-use Rattle.rm_report.specs.declared.line.Shape.{Shape}
-use Rattle.rm_report.specs.declared.line.Shape.TheVariants as shape
+use Rattle.rm_report.specs.declared.line.{Line.{Line, TheVariants.{LogIs, PieceIs}}, Packing.{Packing, TheVariants as packing}}
+use Rattle.rm_report.specs.declared.line.Shape.{Shape, TheVariants as shape}
 use Rattle.rm_catalog_typed.specs.TypedCatalog.{records_of}
 use Rattle.rm_verify.specs.Classes.{is_of}
-use Rattle.rm_machine.specs.Effect.{Outcome, told}
-use Rattle.rm_machine.specs.declared.state.State.{State}
+use Rattle.rm_machine.specs.{Effect.{Outcome, told}, declared.state.State.{State}}
 
 -- what a piece of this kind has, from this SCN on
 abbrev pub shape_by : Kind → ℕ → Shape

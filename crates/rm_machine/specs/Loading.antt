@@ -4,22 +4,12 @@ use Rattle.std.specs.Option.{option_map}
 use Rattle.rm_base.specs.Store.{Held}
 use Rattle.rm_blocks.specs.File.{File}
 use Rattle.rm_catalog.specs.declared.record.HeadEntry.{HeadEntry}
-use Rattle.rm_history.specs.declared.world.Datafile.{Datafile}
-use Rattle.rm_history.specs.Tree.{end_of}
-use Rattle.rm_catalog_typed.specs.Ledger.{Ledger}
-use Rattle.rm_catalog_typed.specs.Switches.{enabled_at}
+use Rattle.rm_history.specs.{Tree.{end_of}, declared.world.Datafile.{Datafile}}
+use Rattle.rm_catalog_typed.specs.{Ledger.{Ledger}, Switches.{enabled_at}, TypedCatalog.{Saved}}
 use Rattle.rm_piece.specs.declared.piece.Piece.{Piece}
-use Rattle.rm_redo.specs.declared.log_file.LogFile.{LogFile}
-use Rattle.rm_redo.specs.Logs.{Logs}
-use Rattle.rm_redo.specs.Online.{logs_of, lost_logs}
-use Rattle.rm_catalog_typed.specs.TypedCatalog.{Saved}
-use Rattle.rm_machine.specs.declared.state.Instance.{Instance}
-use Rattle.rm_machine.specs.declared.state.State.{State}
-use Rattle.rm_machine.specs.Mount.{mount_point}
-use Rattle.rm_machine.specs.Saved.{IsGoodFile, IsGoodLog}
-use Rattle.rm_machine.specs.Sound.{IsPoint}
-use Rattle.rm_machine.specs.State.{has_lost, ledger, current_of}
-use Rattle.rm_machine.specs.Tracked.{first_tracker}
+use Rattle.rm_redo.specs.{Logs.{Logs}, Online.{logs_of, lost_logs}, declared.log_file.LogFile.{LogFile}}
+use Rattle.rm_machine.specs.{Mount.{mount_point}, Saved.{IsGoodFile, IsGoodLog}, Sound.{IsPoint}, State.{has_lost, ledger, current_of}}
+use Rattle.rm_machine.specs.{Tracked.{first_tracker}, declared.state.{Instance.{Instance}, State.{State}}}
 
 -- what there is of which this is so, or that there is none
 abbrev pub IsTheOne : {A : Type 0} → (A → Type 0) → Option A → Type 0

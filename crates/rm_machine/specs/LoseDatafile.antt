@@ -1,13 +1,8 @@
 -- HOST LOSE DATAFILE f
 use Rattle.std.specs.Prelude.{ℕ, ◌≡◌, ◌-◌, ◌==◌, filter, not, is_none, if◌then◌else◌, Option, Some, None, [], ◌∷◌, slice_set}
-use Rattle.rm_base.specs.declared.refusal.Refusal.{Refusal}
-use Rattle.rm_base.specs.declared.refusal.Refusal.TheVariants.{Rm05}
-use Rattle.rm_base.specs.declared.refusal.Absent.TheVariants.{File}
+use Rattle.rm_base.specs.declared.refusal.{Refusal.{Refusal, TheVariants.{Rm05}}, Absent.TheVariants.{File}}
 use Rattle.rm_report.specs.declared.line.Line.TheVariants.{FileLost}
-use Rattle.rm_machine.specs.Effect.{Outcome, done, no_effect}
-use Rattle.rm_machine.specs.Marks.{ids_refusal}
-use Rattle.rm_machine.specs.declared.state.State.{State}
-use Rattle.rm_machine.specs.State.{on_path}
+use Rattle.rm_machine.specs.{Effect.{Outcome, done, no_effect}, Marks.{ids_refusal}, State.{on_path}, declared.state.State.{State}}
 
 -- why it is refused: the datafile is not on the current path
 abbrev pub lose_refusal : State → ℕ → Option Refusal

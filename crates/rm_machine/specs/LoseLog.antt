@@ -1,16 +1,11 @@
 -- HOST LOSE LOG THREAD t
 use Rattle.std.specs.Prelude.{ℕ, ◌≡◌, if◌then◌else◌, Option, Some, [], ◌∷◌}
-use Rattle.rm_base.specs.declared.refusal.Refusal.{Refusal}
-use Rattle.rm_base.specs.declared.refusal.Refusal.TheVariants.{Rm05}
-use Rattle.rm_base.specs.declared.refusal.Absent.TheVariants.{Thread}
+use Rattle.rm_base.specs.declared.refusal.{Refusal.{Refusal, TheVariants.{Rm05}}, Absent.TheVariants.{Thread}}
 use Rattle.rm_redo.specs.Online.{counted_as, with_loss}
 use Rattle.rm_report.specs.declared.line.Line.TheVariants.{LogLost}
 use Rattle.rm_catalog_typed.specs.Switches.{enabled_at}
-use Rattle.rm_machine.specs.Effect.{Outcome, done, no_effect}
-use Rattle.rm_machine.specs.Marks.{ids_refusal}
-use Rattle.rm_machine.specs.Mount.{as_mounted}
-use Rattle.rm_machine.specs.declared.state.State.{State}
-use Rattle.rm_machine.specs.State.{ledger, current_of, is_no_thread, now_of}
+use Rattle.rm_machine.specs.{Effect.{Outcome, done, no_effect}, Marks.{ids_refusal}, Mount.{as_mounted}}
+use Rattle.rm_machine.specs.{State.{ledger, current_of, is_no_thread, now_of}, declared.state.State.{State}}
 
 -- why it is refused: the thread has no online log
 abbrev pub lose_log_refusal : State → ℕ → Option Refusal

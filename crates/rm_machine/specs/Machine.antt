@@ -1,45 +1,21 @@
 -- The machine: a database, and what nobody sees of it.
 use Rattle.std.specs.Prelude.{ℕ, ◌≡◌, ◌⊎◌, ◌≤◌, ◌<◌, true, false, Option, Some, None, List, [], All, Contains, length, slice_get}
-use Rattle.rm_base.specs.Store.{Held}
-use Rattle.rm_base.specs.declared.block.BlockId.{BlockId}
-use Rattle.rm_base.specs.declared.block.Change.{Change}
-use Rattle.rm_base.specs.declared.kinds.Kind.{Kind}
-use Rattle.rm_base.specs.declared.kinds.Kind.TheVariants.{Level1}
+use Rattle.rm_base.specs.{Store.{Held}, declared.{block.{BlockId.{BlockId}, Change.{Change}}, kinds.Kind.{Kind, TheVariants.{Level1}}}}
 use Rattle.rm_blocks.specs.File.{File, base_of}
-use Rattle.rm_catalog.specs.declared.record.LogEntry.{LogEntry}
-use Rattle.rm_catalog.specs.declared.record.PieceEntry.{PieceEntry}
-use Rattle.rm_catalog.specs.declared.record.SetEntry.{SetEntry}
-use Rattle.rm_history.specs.declared.tree.Incarnation.{Incarnation}
-use Rattle.rm_history.specs.declared.world.Datafile.{Datafile}
-use Rattle.rm_history.specs.declared.world.World.{World}
-use Rattle.rm_history.specs.Agrees.{BaseAgrees, Level1Agrees, LogAgrees}
-use Rattle.rm_history.specs.History.{IsHistory}
-use Rattle.rm_history.specs.State.{state}
-use Rattle.rm_history.specs.Tree.{IsThere, end_of}
-use Rattle.rm_history.specs.World.{exists}
+use Rattle.rm_catalog.specs.declared.record.{LogEntry.{LogEntry}, PieceEntry.{PieceEntry}, SetEntry.{SetEntry}}
+use Rattle.rm_history.specs.{Agrees.{BaseAgrees, Level1Agrees, LogAgrees}, History.{IsHistory}, State.{state}, Tree.{IsThere, end_of}}
+use Rattle.rm_history.specs.{World.{exists}, declared.{tree.Incarnation.{Incarnation}, world.{Datafile.{Datafile}, World.{World}}}}
 use Rattle.rm_track.specs.Told.{Tell}
-use Rattle.rm_catalog_typed.specs.Ledger.{Ledger}
-use Rattle.rm_evidence.specs.Database.{Database}
-use Rattle.rm_evidence.specs.Names.{log_name, piece_name, set_name}
+use Rattle.rm_catalog_typed.specs.{Ledger.{Ledger}, Worlds.{database_of}}
+use Rattle.rm_evidence.specs.{Database.{Database}, Names.{log_name, piece_name, set_name}}
 use Rattle.rm_evidence.specs.Objects.{HasDigest, HasLogFields, HasPieceFields, HasSetFields}
-use Rattle.rm_piece.specs.declared.piece.Piece.{Piece}
-use Rattle.rm_piece.specs.declared.set.Set.{Set}
-use Rattle.rm_piece.specs.Sets.{IsSet}
-use Rattle.rm_piece.specs.SetSpelling.{set_spelling}
-use Rattle.rm_piece.specs.Artefacts as piece
-use Rattle.rm_piece.specs.Spelling as piece_format
-use Rattle.rm_piece.specs.Valid.{IsPiece}
+use Rattle.rm_piece.specs.{Artefacts as piece, Spelling as piece_format, Sets.{IsSet}, SetSpelling.{set_spelling}, Valid.{IsPiece}}
+use Rattle.rm_piece.specs.declared.{piece.Piece.{Piece}, set.Set.{Set}}
+use Rattle.rm_redo.specs.{LogFormat as log_format, LogFile.{log_of}, LogFormat.{IsLogFile}, Online.{IsThread}}
 use Rattle.rm_redo.specs.declared.log_file.LogFile.{LogFile}
-use Rattle.rm_redo.specs.LogFile.{log_of}
-use Rattle.rm_redo.specs.LogFormat as log_format
-use Rattle.rm_redo.specs.LogFormat.{IsLogFile}
-use Rattle.rm_redo.specs.Online.{IsThread}
-use Rattle.rm_machine.specs.Damage.{has_block, has_file}
-use Rattle.rm_machine.specs.Effect.{Artefact, a_log, a_piece, a_set, Made}
-use Rattle.rm_machine.specs.Sound.{IsSound}
-use Rattle.rm_machine.specs.declared.state.State.{State}
+use Rattle.rm_machine.specs.{Damage.{has_block, has_file}, Effect.{Artefact, a_log, a_piece, a_set, Made}, Sound.{IsSound}}
 use Rattle.rm_machine.specs.State.{ledger, tree, world, current_of, now_of, placed, counted, online, is_lost}
-use Rattle.rm_catalog_typed.specs.Worlds.{database_of}
+use Rattle.rm_machine.specs.declared.state.State.{State}
 
 pub record Machine : Type 0 where
   -- the database, where there is one

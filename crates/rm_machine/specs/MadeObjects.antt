@@ -2,19 +2,14 @@
 use Rattle.std.specs.Prelude.{ℕ, ◌≤◌, ◌+◌, Option, Some, None, List, [], ◌∷◌, ◌++◌, All, length, map}
 use Rattle.rm_base.specs.declared.block.Row.{Row}
 use Rattle.rm_commit.specs.declared.commit.Object.{Object}
-use Rattle.rm_catalog_typed.specs.LedgerFacts.{IsPieceEntry, IsSetEntry}
-use Rattle.rm_catalog_typed.specs.Ledger.{Ledger, ledger_records}
-use Rattle.rm_piece.specs.Sets.{IsSet}
-use Rattle.rm_piece.specs.Valid.{IsPiece}
+use Rattle.rm_catalog_typed.specs.{LedgerFacts.{IsPieceEntry, IsSetEntry}, Ledger.{Ledger, ledger_records}}
+use Rattle.rm_piece.specs.{Sets.{IsSet}, Valid.{IsPiece}}
 use Rattle.rm_report.specs.declared.line.Line.{Line}
 use Rattle.rm_lang_statement.specs.declared.command.BackupForm.{BackupForm}
-use Rattle.rm_machine.specs.Backup.{grouped}
-use Rattle.rm_machine.specs.Effect.{Made}
+use Rattle.rm_machine.specs.{Backup.{grouped}, Effect.{Made}}
 use Rattle.rm_machine.specs.MadePieces.{Copied, after_piece, copied, entry_for, line_for, made_for, object_for}
 use Rattle.rm_machine.specs.MadeSets.{InSet, after_set, in_sets, member_line, set_entry_for, set_made, set_object, set_of}
-use Rattle.rm_machine.specs.declared.job.Job.{Job}
-use Rattle.rm_machine.specs.declared.state.State.{State}
-use Rattle.rm_machine.specs.State.{ledger, tree}
+use Rattle.rm_machine.specs.{State.{ledger, tree}, declared.{job.Job.{Job}, state.State.{State}}}
 
 -- an object that is recorded: a piece or an image copy of one datafile, or a set of several with this checkpoint
 pub data Packed : Type 0 where

@@ -3,24 +3,14 @@ use Rattle.std.specs.Prelude.{ℕ, unwrap_or, Bool, List, [], ◌∷◌, length}
 use Rattle.rm_base.specs.declared.block.Row.{Row}
 use Rattle.rm_catalog.specs.declared.record.PieceEntry.{PieceEntry}
 use Rattle.rm_commit.specs.declared.commit.Object.{Object}
-use Rattle.rm_history.specs.Artefacts.{high_of}
-use Rattle.rm_history.specs.World.{blocks_of}
-use Rattle.rm_catalog_typed.specs.Ledger.{Ledger}
-use Rattle.rm_evidence.specs.Names.{piece_name}
-use Rattle.rm_evidence.specs.Objects.{piece_entry}
-use Rattle.rm_piece.specs.declared.piece.Piece.{Piece}
-use Rattle.rm_piece.specs.Spelling.{spelling}
-use Rattle.rm_report.specs.declared.line.Line.{Line}
-use Rattle.rm_report.specs.declared.line.Line.TheVariants.{BackedUp}
-use Rattle.rm_catalog_typed.specs.Changes.{with_new_piece}
+use Rattle.rm_history.specs.{Artefacts.{high_of}, World.{blocks_of}}
+use Rattle.rm_catalog_typed.specs.{Ledger.{Ledger}, Changes.{with_new_piece}, Worlds.{world_of}}
+use Rattle.rm_evidence.specs.{Names.{piece_name}, Objects.{piece_entry}}
+use Rattle.rm_piece.specs.{Spelling.{spelling}, declared.piece.Piece.{Piece}}
+use Rattle.rm_report.specs.declared.line.Line.{Line, TheVariants.{BackedUp}}
 use Rattle.rm_lang_statement.specs.declared.command.BackupForm.{BackupForm}
-use Rattle.rm_machine.specs.Backup.{is_copy, kind_by, rows_from}
-use Rattle.rm_machine.specs.Effect.{Made, a_piece}
-use Rattle.rm_machine.specs.Lists.{packing_by, shape_by}
-use Rattle.rm_machine.specs.declared.job.Job.{Job}
-use Rattle.rm_machine.specs.declared.state.State.{State}
-use Rattle.rm_machine.specs.State.{ledger}
-use Rattle.rm_catalog_typed.specs.Worlds.{world_of}
+use Rattle.rm_machine.specs.{Backup.{is_copy, kind_by, rows_from}, Effect.{Made, a_piece}, Lists.{packing_by, shape_by}, State.{ledger}}
+use Rattle.rm_machine.specs.declared.{job.Job.{Job}, state.State.{State}}
 
 -- by the records, the piece of a datafile of which these rows were read, with this checkpoint
 abbrev pub piece_by : Ledger → BackupForm → ℕ → Job → List Row → Piece

@@ -4,25 +4,13 @@ use Rattle.rm_base.specs.declared.block.Row.{Row}
 use Rattle.rm_catalog.specs.declared.record.SetEntry.{SetEntry}
 use Rattle.rm_commit.specs.declared.commit.Object.{Object}
 use Rattle.rm_history.specs.World.{creation_of}
-use Rattle.rm_catalog_typed.specs.Ledger.{Ledger}
-use Rattle.rm_catalog_typed.specs.Changes.{with_new_set}
+use Rattle.rm_catalog_typed.specs.{Ledger.{Ledger}, Changes.{with_new_set}, Worlds.{world_of}}
 use Rattle.rm_evidence.specs.Names.{set_name}
-use Rattle.rm_piece.specs.declared.set.Set.{Set}
-use Rattle.rm_piece.specs.declared.set.SetFile.{SetFile}
-use Rattle.rm_piece.specs.Filling.{risen}
-use Rattle.rm_piece.specs.SetSpelling.{set_spelling, spelled}
-use Rattle.rm_report.specs.declared.line.Line.{Line}
-use Rattle.rm_report.specs.declared.line.Line.TheVariants.{BackedUp}
-use Rattle.rm_report.specs.declared.line.Packing.TheVariants as packing
+use Rattle.rm_piece.specs.{Filling.{risen}, SetSpelling.{set_spelling, spelled}, declared.set.{Set.{Set}, SetFile.{SetFile}}}
+use Rattle.rm_report.specs.declared.line.{Line.{Line, TheVariants.{BackedUp}}, Packing.TheVariants as packing}
 use Rattle.rm_lang_statement.specs.declared.command.BackupForm.{BackupForm}
-use Rattle.rm_machine.specs.Backup.{set_entry}
-use Rattle.rm_machine.specs.Effect.{Made, a_set}
-use Rattle.rm_machine.specs.Lists.{shape_by}
-use Rattle.rm_machine.specs.MadePieces.{piece_by}
-use Rattle.rm_machine.specs.declared.job.Job.{Job}
-use Rattle.rm_machine.specs.declared.state.State.{State}
-use Rattle.rm_machine.specs.State.{ledger}
-use Rattle.rm_catalog_typed.specs.Worlds.{world_of}
+use Rattle.rm_machine.specs.{Backup.{set_entry}, Effect.{Made, a_set}, Lists.{shape_by}, MadePieces.{piece_by}, State.{ledger}}
+use Rattle.rm_machine.specs.declared.{job.Job.{Job}, state.State.{State}}
 
 -- By the records, the member of a datafile of which these rows were read, with this checkpoint. A row that is not above the creation
 -- counts as the zero row at the creation.

@@ -1,11 +1,8 @@
 -- HOST REMOVE 'name', HOST DAMAGE 'name' AT n, HOST CUT 'name' TO n and HOST RENAME 'name' TO 'name'
 use Rattle.std.specs.Prelude.{ℕ, ◌≡◌, ◌-◌, nat_le, if◌then◌else◌, Option, Some, None, List, [], ◌∷◌, length, slice_set, get_or, take}
-use Rattle.rm_base.specs.Store.{Held}
-use Rattle.rm_base.specs.declared.refusal.Refusal.TheVariants.{Rm12, Rm13}
-use Rattle.rm_base.specs.declared.refusal.Unknown.TheVariants.{Object, Byte}
+use Rattle.rm_base.specs.{Store.{Held}, declared.refusal.{Refusal.TheVariants.{Rm12, Rm13}, Unknown.TheVariants.{Object, Byte}}}
 use Rattle.rm_report.specs.declared.line.Line.TheVariants.{Removed, Damaged, Cut, Renamed}
-use Rattle.rm_machine.specs.Effect.{Effect, Outcome, refused, done, no_effect}
-use Rattle.rm_machine.specs.declared.state.State.{State}
+use Rattle.rm_machine.specs.{Effect.{Effect, Outcome, refused, done, no_effect}, declared.state.State.{State}}
 
 -- the object goes
 abbrev pub removal : List ℕ → Effect

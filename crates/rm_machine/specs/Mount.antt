@@ -2,14 +2,10 @@
 use Rattle.std.specs.Prelude.{ℕ, ◌≡◌, ◌+◌, ◌&&◌, if◌then◌else◌, is_none, false, Option, Some, None, List, [], ◌∷◌, map}
 use Rattle.std.specs.Option.{option_map}
 use Rattle.rm_blocks.specs.File.{File, standing}
-use Rattle.rm_history.specs.declared.world.Datafile.{Datafile}
-use Rattle.rm_history.specs.declared.world.World.{World}
-use Rattle.rm_history.specs.World.{exists}
+use Rattle.rm_history.specs.{World.{exists}, declared.world.{Datafile.{Datafile}, World.{World}}}
 use Rattle.rm_report.specs.declared.line.Line.TheVariants.{Mounted}
-use Rattle.rm_machine.specs.Damage.{without_damaged}
-use Rattle.rm_machine.specs.Effect.{Outcome, done, no_effect}
+use Rattle.rm_machine.specs.{Damage.{without_damaged}, Effect.{Outcome, done, no_effect}, State.{ledger, world, current_of, now_of}}
 use Rattle.rm_machine.specs.declared.state.State.{State}
-use Rattle.rm_machine.specs.State.{ledger, world, current_of, now_of}
 
 -- of the datafiles from f on, the first that exists at (i, s) and is lost
 abbrev pub first_lost : World → ℕ → ℕ → ℕ → List Datafile → List (Option File) → Option ℕ

@@ -1,26 +1,15 @@
 -- REPORT OBSOLETE, REPORT NEED BACKUP and DELETE OBSOLETE
-use Rattle.std.specs.Prelude.{ℕ, ◌≡◌, ◌<◌, ◌++◌, List, [], ◌∷◌, AllPairs, length, map, max, unwrap_or}
-use Rattle.std.specs.List.{flat_map}
-use Rattle.rm_base.specs.Store.{Held}
-use Rattle.rm_base.specs.declared.block.Block.{Block}
-use Rattle.rm_base.specs.declared.kinds.Policy.{Policy}
-use Rattle.rm_base.specs.declared.kinds.Policy.TheVariants.{Window}
+use Rattle.std.specs.{Prelude.{ℕ, ◌≡◌, ◌<◌, ◌++◌, List, [], ◌∷◌, AllPairs, length, map, max, unwrap_or}, List.{flat_map}}
+use Rattle.rm_base.specs.{Store.{Held}, declared.{block.Block.{Block}, kinds.Policy.{Policy, TheVariants.{Window}}}}
 use Rattle.rm_apply.specs.Files.{AreExactly}
-use Rattle.rm_evidence.specs.declared.evidence.Evidence.{Evidence}
-use Rattle.rm_evidence.specs.Known.{known_of}
-use Rattle.rm_history.specs.FirstGap.{IsRecoverable, IsTarget}
-use Rattle.rm_history.specs.Known.{Determined}
+use Rattle.rm_evidence.specs.{Known.{known_of}, declared.evidence.Evidence.{Evidence}}
+use Rattle.rm_history.specs.{FirstGap.{IsRecoverable, IsTarget}, Known.{Determined}}
 use Rattle.rm_report.specs.declared.line.Line.TheVariants as line
 use Rattle.rm_catalog_typed.specs.TypedCatalog.{records_of}
-use Rattle.rm_retain.specs.Catalogued.{AreObsolete, by_records}
-use Rattle.rm_retain.specs.Chosen.{Retention, chosen, wanted}
-use Rattle.rm_retain.specs.Obsolete.{IsOnPath}
+use Rattle.rm_retain.specs.{Catalogued.{AreObsolete, by_records}, Chosen.{Retention, chosen, wanted}, Obsolete.{IsOnPath}}
 use Rattle.rm_retain.specs.Window.{IsInWindow, window_start}
-use Rattle.rm_machine.specs.Effect.{Outcome, done, told}
-use Rattle.rm_machine.specs.Recovery.{IsAtHand}
-use Rattle.rm_machine.specs.declared.state.State.{State}
-use Rattle.rm_machine.specs.State.{current_of, ledger, tree, world}
-use Rattle.rm_machine.specs.Upkeep.{names_at, removing, with_catalog, without_all}
+use Rattle.rm_machine.specs.{Effect.{Outcome, done, told}, Recovery.{IsAtHand}, State.{current_of, ledger, tree, world}}
+use Rattle.rm_machine.specs.{Upkeep.{names_at, removing, with_catalog, without_all}, declared.state.State.{State}}
 
 -- the SCN at which the window of a policy starts at the moment of the statement; a policy without a window needs none
 abbrev pub start_by : State → Policy → ℕ

@@ -1,18 +1,12 @@
 -- ALTER DATABASE OPEN
 use Rattle.std.specs.Prelude.{ℕ, ◌≡◌, ◌==◌, ◌&&◌, not, if◌then◌else◌, Bool, true, false, Option, Some, None, List, [], ◌∷◌}
 use Rattle.std.specs.Option.{option_map_or}
-use Rattle.rm_base.specs.declared.refusal.Refusal.{Refusal}
-use Rattle.rm_base.specs.declared.refusal.Refusal.TheVariants.{Rm04, Rm10}
+use Rattle.rm_base.specs.declared.refusal.Refusal.{Refusal, TheVariants.{Rm04, Rm10}}
 use Rattle.rm_blocks.specs.File.{File}
-use Rattle.rm_history.specs.declared.world.Datafile.{Datafile}
-use Rattle.rm_history.specs.declared.world.World.{World}
-use Rattle.rm_history.specs.World.{exists}
+use Rattle.rm_history.specs.{World.{exists}, declared.world.{Datafile.{Datafile}, World.{World}}}
 use Rattle.rm_report.specs.declared.line.Line.TheVariants.{Opened}
-use Rattle.rm_machine.specs.Effect.{Outcome, done, no_effect}
-use Rattle.rm_machine.specs.Marks.{ids_refusal}
-use Rattle.rm_machine.specs.declared.state.State.{State}
-use Rattle.rm_machine.specs.State.{has_lost, ledger, world, current_of, now_of}
-use Rattle.rm_machine.specs.Tracked.{first_tracker}
+use Rattle.rm_machine.specs.{Effect.{Outcome, done, no_effect}, Marks.{ids_refusal}, State.{has_lost, ledger, world, current_of, now_of}}
+use Rattle.rm_machine.specs.{Tracked.{first_tracker}, declared.state.State.{State}}
 
 -- what stands in place, without the datafiles that do not exist at (i, s)
 abbrev pub kept_in_place : World → ℕ → ℕ → List Datafile → List (Option File) → List (Option File)

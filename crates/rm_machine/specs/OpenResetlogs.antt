@@ -1,21 +1,12 @@
 -- ALTER DATABASE OPEN RESETLOGS
 use Rattle.std.specs.Prelude.{ℕ, ◌≡◌, ◌+◌, nat_le, if◌then◌else◌, true, false, Option, Some, List, [], ◌∷◌, ◌++◌, length, IsSomeAnd}
 use Rattle.std.specs.Option.{option_map_or}
-use Rattle.rm_base.specs.declared.refusal.Refusal.{Refusal}
-use Rattle.rm_base.specs.declared.refusal.Refusal.TheVariants.{Rm04, Rm10, Rm11}
-use Rattle.rm_base.specs.declared.refusal.Limit.TheVariants.{Incarnations}
+use Rattle.rm_base.specs.declared.refusal.{Refusal.{Refusal, TheVariants.{Rm04, Rm10, Rm11}}, Limit.TheVariants.{Incarnations}}
 use Rattle.rm_redo.specs.Online.{begun_logs}
-use Rattle.rm_report.specs.declared.line.Line.{Line}
-use Rattle.rm_report.specs.declared.line.Line.TheVariants.{Opened}
-use Rattle.rm_catalog_typed.specs.Changes.{with_base, with_incarnation}
-use Rattle.rm_catalog_typed.specs.Switches.{enabled_at}
-use Rattle.rm_catalog_typed.specs.TypedCatalog.{TypedCatalog}
-use Rattle.rm_machine.specs.Archive.{after_all, archiving, archiving_refusal, lines_from}
-use Rattle.rm_machine.specs.Effect.{Outcome, done}
-use Rattle.rm_machine.specs.Open.{opened}
-use Rattle.rm_machine.specs.declared.state.State.{State}
-use Rattle.rm_machine.specs.State.{ledger, tree, current_of}
-use Rattle.rm_machine.specs.Tracked.{first_tracker}
+use Rattle.rm_report.specs.declared.line.Line.{Line, TheVariants.{Opened}}
+use Rattle.rm_catalog_typed.specs.{Changes.{with_base, with_incarnation}, Switches.{enabled_at}, TypedCatalog.{TypedCatalog}}
+use Rattle.rm_machine.specs.{Archive.{after_all, archiving, archiving_refusal, lines_from}, Effect.{Outcome, done}, Open.{opened}}
+use Rattle.rm_machine.specs.{State.{ledger, tree, current_of}, Tracked.{first_tracker}, declared.state.State.{State}}
 
 -- why it is refused at a point: no incarnation is left, or the logs can't be archived, where the new incarnation
 -- and its mark are two records more

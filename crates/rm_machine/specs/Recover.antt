@@ -1,21 +1,14 @@
 -- RECOVER DATABASE [UNTIL ..]
-use Rattle.std.specs.Prelude.{ℕ, ◌≡◌, if◌then◌else◌, false, Option, Some, None, List, [], ◌∷◌, ◌++◌, length}
-use Rattle.std.specs.Option.{option_map}
-use Rattle.rm_base.specs.Store.{Held}
-use Rattle.rm_base.specs.declared.block.Change.{Change}
-use Rattle.rm_base.specs.declared.refusal.Refusal.{Refusal}
-use Rattle.rm_base.specs.declared.refusal.Refusal.TheVariants.{Rm04, Rm09}
+use Rattle.std.specs.{Prelude.{ℕ, ◌≡◌, if◌then◌else◌, false, Option, Some, None, List, [], ◌∷◌, ◌++◌, length}, Option.{option_map}}
+use Rattle.rm_base.specs.{Store.{Held}, declared.{block.Change.{Change}, refusal.Refusal.{Refusal, TheVariants.{Rm04, Rm09}}}}
 use Rattle.rm_blocks.specs.File.{File}
 use Rattle.rm_lang_statement.specs.declared.command.Until.{Until}
 use Rattle.rm_apply.specs.declared.recovering.Recovered.{Recovered}
 use Rattle.rm_report.specs.declared.line.Line.TheVariants.{Recovered as recovered_line}
-use Rattle.rm_machine.specs.Effect.{Outcome, done, no_effect}
-use Rattle.rm_machine.specs.Marks.{ids_refusal}
-use Rattle.rm_machine.specs.Mount.{first_lost}
+use Rattle.rm_machine.specs.{Effect.{Outcome, done, no_effect}, Marks.{ids_refusal}, Mount.{first_lost}}
 use Rattle.rm_machine.specs.Recovery.{AreMadeAt, IsRecoveryOutcome, put_over, range_refusal, skipped_lines, with_place}
-use Rattle.rm_machine.specs.Until.{or_else, target_of, until_refusal}
+use Rattle.rm_machine.specs.{Until.{or_else, target_of, until_refusal}, State.{ledger, tree, world, current_of}}
 use Rattle.rm_machine.specs.declared.state.State.{State}
-use Rattle.rm_machine.specs.State.{ledger, tree, world, current_of}
 
 -- the SCN at which it stops
 abbrev pub recover_target : State → Option Until → Option ℕ

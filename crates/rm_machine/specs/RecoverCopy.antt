@@ -1,45 +1,23 @@
 -- RECOVER COPY OF DATABASE WITH TAG tag [UNTIL ..]
 use Rattle.std.specs.Prelude.{ℕ, ◌≡◌, ◌&&◌, ◌||◌, ◌+◌, ◌*◌, if◌then◌else◌, is_some, Bool, true, false, Option, Some, None, List, [], ◌∷◌, ◌++◌, Contains, filter, length, map, sum_by}
-use Rattle.std.specs.List.{list_any}
-use Rattle.std.specs.Option.{option_map_or}
-use Rattle.std.specs.Str.{bytes_eq}
-use Rattle.rm_base.specs.Store.{Held}
-use Rattle.rm_base.specs.declared.kinds.Bad.{Bad}
-use Rattle.rm_base.specs.declared.kinds.Kind.{Kind}
-use Rattle.rm_base.specs.declared.kinds.Kind.TheVariants.{Level1}
-use Rattle.rm_base.specs.declared.refusal.Limit.TheVariants.{Bytes, ObjectIds}
-use Rattle.rm_base.specs.declared.refusal.Refusal.{Refusal}
-use Rattle.rm_base.specs.declared.refusal.Refusal.TheVariants.{Rm11, Rm12}
+use Rattle.std.specs.{List.{list_any}, Option.{option_map_or}, Str.{bytes_eq}}
+use Rattle.rm_base.specs.{Store.{Held}, declared.kinds.{Bad.{Bad}, Kind.{Kind, TheVariants.{Level1}}}}
+use Rattle.rm_base.specs.declared.refusal.{Limit.TheVariants.{Bytes, ObjectIds}, Refusal.{Refusal, TheVariants.{Rm11, Rm12}}}
 use Rattle.rm_base.specs.declared.refusal.Unknown.TheVariants.{Tag}
 use Rattle.rm_apply.specs.Files.{AreExactly}
-use Rattle.rm_backup.specs.declared.renewing.Renewed.{Renewed}
-use Rattle.rm_backup.specs.Renewed.{IsRenewed}
-use Rattle.rm_backup.specs.Taken.{IsTaken}
-use Rattle.rm_catalog.specs.declared.record.PieceEntry.{PieceEntry}
-use Rattle.rm_catalog.specs.declared.record.Record.{Record}
-use Rattle.rm_catalog.specs.declared.record.Record.TheVariants as records
+use Rattle.rm_backup.specs.{Renewed.{IsRenewed}, Taken.{IsTaken}, declared.renewing.Renewed.{Renewed}}
+use Rattle.rm_catalog.specs.declared.record.{PieceEntry.{PieceEntry}, Record.{Record, TheVariants as records}}
 use Rattle.rm_commit.specs.declared.commit.Object.{Object}
+use Rattle.rm_evidence.specs.{Available.{IsSkipped}, Gathered.{Lists}, Names.{piece_name}, Objects.{piece_entry}}
 use Rattle.rm_evidence.specs.declared.evidence.Evidence.{Evidence}
-use Rattle.rm_evidence.specs.Available.{IsSkipped}
-use Rattle.rm_evidence.specs.Gathered.{Lists}
-use Rattle.rm_evidence.specs.Names.{piece_name}
-use Rattle.rm_evidence.specs.Objects.{piece_entry}
-use Rattle.rm_piece.specs.declared.piece.Piece.{Piece}
-use Rattle.rm_piece.specs.Spelling.{spelling}
-use Rattle.rm_report.specs.declared.line.Line.{Line}
-use Rattle.rm_report.specs.declared.line.Line.TheVariants.{Merged, StartsAbove, Stays}
-use Rattle.rm_catalog_typed.specs.Changes.{with_new_piece, without_piece}
-use Rattle.rm_catalog_typed.specs.TypedCatalog.{records_of}
+use Rattle.rm_piece.specs.{Spelling.{spelling}, declared.piece.Piece.{Piece}}
+use Rattle.rm_report.specs.declared.line.Line.{Line, TheVariants.{Merged, StartsAbove, Stays}}
+use Rattle.rm_catalog_typed.specs.{Changes.{with_new_piece, without_piece}, TypedCatalog.{records_of}}
 use Rattle.rm_lang_statement.specs.declared.command.Until.{Until}
-use Rattle.rm_machine.specs.Effect.{Effect, Made, Outcome, a_piece, done, no_effect, refused}
-use Rattle.rm_machine.specs.Marks.{ids_refusal, lacks_bytes, lacks_ids}
-use Rattle.rm_machine.specs.Recover.{recover_target}
-use Rattle.rm_machine.specs.Recovery.{IsAtHand, range_refusal, skipped_lines}
-use Rattle.rm_machine.specs.declared.state.State.{State}
-use Rattle.rm_machine.specs.State.{current_of, ledger, on_path, tree}
-use Rattle.rm_machine.specs.Until.{or_else, until_refusal}
-use Rattle.rm_machine.specs.Upkeep.{piece_at}
-use Rattle.rm_machine.specs.Validate.{is_available}
+use Rattle.rm_machine.specs.{Effect.{Effect, Made, Outcome, a_piece, done, no_effect, refused}, Marks.{ids_refusal, lacks_bytes, lacks_ids}}
+use Rattle.rm_machine.specs.{Recover.{recover_target}, Recovery.{IsAtHand, range_refusal, skipped_lines}}
+use Rattle.rm_machine.specs.{State.{current_of, ledger, on_path, tree}, Until.{or_else, until_refusal}, Upkeep.{piece_at}}
+use Rattle.rm_machine.specs.{Validate.{is_available}, declared.state.State.{State}}
 
 -- the record is one of an image copy with the tag that counts as available
 abbrev pub is_copy_with : List ℕ → PieceEntry → Bool

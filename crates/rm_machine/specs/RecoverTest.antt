@@ -1,23 +1,15 @@
 -- RECOVER DATABASE [UNTIL ..] [INCARNATION i] TEST
 use Rattle.std.specs.Prelude.{ℕ, ◌≡◌, ◌==◌, ◌||◌, nat_lt, if◌then◌else◌, Bool, Option, Some, None, List, [], ◌∷◌, ◌++◌, count_by, length, unwrap_or}
-use Rattle.rm_base.specs.Store.{Held}
-use Rattle.rm_base.specs.declared.block.Change.{Change}
-use Rattle.rm_base.specs.declared.block.Row.{Row}
-use Rattle.rm_base.specs.declared.kinds.Bad.{Bad}
-use Rattle.rm_base.specs.declared.refusal.Refusal.{Refusal}
+use Rattle.rm_base.specs.{Store.{Held}, declared.{block.{Change.{Change}, Row.{Row}}, kinds.Bad.{Bad}, refusal.Refusal.{Refusal}}}
 use Rattle.rm_base.specs.declared.refusal.Refusal.TheVariants.{Rm07}
 use Rattle.rm_blocks.specs.File.{File}
 use Rattle.rm_lang_statement.specs.declared.command.Until.{Until}
 use Rattle.rm_apply.specs.declared.recovering.Recovered.{Recovered}
-use Rattle.rm_history.specs.declared.world.World.{World}
-use Rattle.rm_history.specs.World.{creation_of}
-use Rattle.rm_report.specs.declared.line.Line.{Line}
-use Rattle.rm_report.specs.declared.line.Line.TheVariants.{UntilIs, FileIs, BlockIs}
-use Rattle.rm_machine.specs.Effect.{Outcome, told}
-use Rattle.rm_machine.specs.Recovery.{AreMadeAt, IsRecoveryOutcome, range_refusal, skipped_lines}
+use Rattle.rm_history.specs.{World.{creation_of}, declared.world.World.{World}}
+use Rattle.rm_report.specs.declared.line.Line.{Line, TheVariants.{UntilIs, FileIs, BlockIs}}
+use Rattle.rm_machine.specs.{Effect.{Outcome, told}, Recovery.{AreMadeAt, IsRecoveryOutcome, range_refusal, skipped_lines}}
+use Rattle.rm_machine.specs.{State.{tree, world, current_of}, Until.{or_else, refusal_at, target_of, thread_refusal}}
 use Rattle.rm_machine.specs.declared.state.State.{State}
-use Rattle.rm_machine.specs.State.{tree, world, current_of}
-use Rattle.rm_machine.specs.Until.{or_else, refusal_at, target_of, thread_refusal}
 
 -- the incarnation that it looks at: the one that it names, or the current one
 abbrev pub tested : State → Option ℕ → ℕ

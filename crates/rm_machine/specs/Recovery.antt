@@ -1,33 +1,18 @@
 -- What a recovery and a restore rest on, and what they come to.
 use Rattle.std.specs.Prelude.{ℕ, zero, suc, ◌≡◌, ◌+◌, ◌-◌, ◌⊎◌, if◌then◌else◌, Option, Some, List, [], ◌∷◌, ◌++◌, map, slice_set}
-use Rattle.std.specs.List.{filter_map}
-use Rattle.std.specs.Option.{option_map}
-use Rattle.rm_base.specs.Store.{Held}
-use Rattle.rm_base.specs.declared.block.Change.{Change}
-use Rattle.rm_base.specs.declared.kinds.Bad.{Bad}
-use Rattle.rm_base.specs.declared.refusal.Refusal.{Refusal}
+use Rattle.std.specs.{List.{filter_map}, Option.{option_map}}
+use Rattle.rm_base.specs.{Store.{Held}, declared.{block.Change.{Change}, kinds.Bad.{Bad}, refusal.Refusal.{Refusal}}}
 use Rattle.rm_base.specs.declared.refusal.Refusal.TheVariants.{Rm06, Rm08}
 use Rattle.rm_blocks.specs.File.{File}
-use Rattle.rm_evidence.specs.declared.evidence.Evidence.{Evidence}
-use Rattle.rm_evidence.specs.declared.evidence.InPlace.{InPlace}
-use Rattle.rm_evidence.specs.Gathered.{IsGathered}
-use Rattle.rm_history.specs.declared.tree.Incarnation.{Incarnation}
-use Rattle.rm_history.specs.declared.world.World.{World}
-use Rattle.rm_history.specs.State.{states}
-use Rattle.rm_history.specs.World.{blocks_of}
-use Rattle.rm_plan.specs.declared.plan.Gap.{Gap}
-use Rattle.rm_plan.specs.Plan.{IsFileTarget}
-use Rattle.rm_apply.specs.declared.recovering.Recovered.{Recovered}
-use Rattle.rm_apply.specs.Files.{AreExactly}
-use Rattle.rm_apply.specs.Recover.{FindsGap, TellsAll, outside}
+use Rattle.rm_evidence.specs.{Gathered.{IsGathered}, declared.evidence.{Evidence.{Evidence}, InPlace.{InPlace}}}
+use Rattle.rm_history.specs.{State.{states}, World.{blocks_of}, declared.{tree.Incarnation.{Incarnation}, world.World.{World}}}
+use Rattle.rm_plan.specs.{Plan.{IsFileTarget}, declared.plan.Gap.{Gap}}
+use Rattle.rm_apply.specs.{Files.{AreExactly}, Recover.{FindsGap, TellsAll, outside}, declared.recovering.Recovered.{Recovered}}
 use Rattle.rm_redo.specs.declared.log_file.LogFile.{LogFile}
-use Rattle.rm_report.specs.declared.line.Line.{Line}
-use Rattle.rm_report.specs.declared.line.Line.TheVariants.{Skipped}
+use Rattle.rm_report.specs.declared.line.Line.{Line, TheVariants.{Skipped}}
 use Rattle.rm_catalog_typed.specs.TypedCatalog.{records_of}
-use Rattle.rm_machine.specs.Damage.{undamaged}
-use Rattle.rm_machine.specs.Effect.{Outcome, refused}
+use Rattle.rm_machine.specs.{Damage.{undamaged}, Effect.{Outcome, refused}, State.{counted, online, is_online}}
 use Rattle.rm_machine.specs.declared.state.State.{State}
-use Rattle.rm_machine.specs.State.{counted, online, is_online}
 
 -- why the target (i, at) is refused: it lies outside the incarnation
 abbrev pub range_refusal : List Incarnation → ℕ → ℕ → Option Refusal

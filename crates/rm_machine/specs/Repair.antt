@@ -1,20 +1,11 @@
 -- What the history says of a BLOCKRECOVER: repair while writers run.
-use Rattle.std.specs.Prelude.{ℕ, ◌≡◌, ◌<◌, ◌==◌, ◌&&◌, ◌||◌, Bool, true, false, Some, List, ◌++◌}
-use Rattle.std.specs.List.{list_any}
+use Rattle.std.specs.{Prelude.{ℕ, ◌≡◌, ◌<◌, ◌==◌, ◌&&◌, ◌||◌, Bool, true, false, Some, List, ◌++◌}, List.{list_any}}
 use Rattle.rm_base.specs.declared.block.Change.{Change}
 use Rattle.rm_history.specs.State.{state}
 use Rattle.rm_lang_statement.specs.declared.command.RepairForm.{RepairForm}
-use Rattle.rm_live.specs.declared.history.Call.{Call}
-use Rattle.rm_live.specs.declared.history.Call.TheVariants.{Mend, Read, Write}
-use Rattle.rm_live.specs.declared.history.Event.{Event}
-use Rattle.rm_live.specs.History.{IsLegal}
-use Rattle.rm_machine.specs.BlockRecover.{asks_for, repair_begun, without_mended}
-use Rattle.rm_machine.specs.Damage.{has_block}
-use Rattle.rm_machine.specs.Dump.{placed_row}
-use Rattle.rm_machine.specs.Effect.{Effect}
-use Rattle.rm_machine.specs.Events.{after_events, changes_of, opening}
-use Rattle.rm_machine.specs.declared.state.State.{State}
-use Rattle.rm_machine.specs.State.{current_of, now_of, world}
+use Rattle.rm_live.specs.{History.{IsLegal}, declared.history.{Call.{Call, TheVariants.{Mend, Read, Write}}, Event.{Event}}}
+use Rattle.rm_machine.specs.{BlockRecover.{asks_for, repair_begun, without_mended}, Damage.{has_block}, Dump.{placed_row}, Effect.{Effect}}
+use Rattle.rm_machine.specs.{Events.{after_events, changes_of, opening}, State.{current_of, now_of, world}, declared.state.State.{State}}
 
 -- the call mends block b of datafile f
 abbrev pub is_mend_of : ℕ → ℕ → Call → Bool

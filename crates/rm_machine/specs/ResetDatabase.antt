@@ -1,16 +1,11 @@
 -- RESET DATABASE TO INCARNATION n
 use Rattle.std.specs.Prelude.{ℕ, ◌≡◌, ◌==◌, ◌||◌, nat_lt, if◌then◌else◌, false, Option, Some, None, [], ◌∷◌, length}
-use Rattle.rm_base.specs.declared.refusal.Refusal.{Refusal}
-use Rattle.rm_base.specs.declared.refusal.Refusal.TheVariants.{Rm04, Rm07}
+use Rattle.rm_base.specs.declared.refusal.Refusal.{Refusal, TheVariants.{Rm04, Rm07}}
 use Rattle.rm_history.specs.Tree.{end_of}
 use Rattle.rm_redo.specs.Online.{counted_as}
 use Rattle.rm_report.specs.declared.line.Line.TheVariants.{Chosen}
-use Rattle.rm_catalog_typed.specs.Changes.{with_base}
-use Rattle.rm_catalog_typed.specs.Switches.{enabled_at}
-use Rattle.rm_machine.specs.Effect.{Outcome, done, no_effect}
-use Rattle.rm_machine.specs.Marks.{ids_refusal}
-use Rattle.rm_machine.specs.declared.state.State.{State}
-use Rattle.rm_machine.specs.State.{ledger, tree}
+use Rattle.rm_catalog_typed.specs.{Changes.{with_base}, Switches.{enabled_at}}
+use Rattle.rm_machine.specs.{Effect.{Outcome, done, no_effect}, Marks.{ids_refusal}, State.{ledger, tree}, declared.state.State.{State}}
 
 -- why it is refused: the database is open, or the incarnation is not there
 abbrev pub reset_refusal : State → ℕ → Option Refusal

@@ -1,21 +1,12 @@
 -- A database at rest, between two sessions: its records, and what nobody sees. What runs is loaded by the next session.
-use Rattle.std.specs.Prelude.{ℕ, ◌≡◌, ◌<◌, ◌^◌, Option, Some, None, IfSome, List, [], All, Contains}
-use Rattle.std.specs.Option.{option_map}
-use Rattle.rm_base.specs.Store.{Held}
-use Rattle.rm_base.specs.declared.block.Change.{Change}
+use Rattle.std.specs.{Prelude.{ℕ, ◌≡◌, ◌<◌, ◌^◌, Option, Some, None, IfSome, List, [], All, Contains}, Option.{option_map}}
+use Rattle.rm_base.specs.{Store.{Held}, declared.block.Change.{Change}}
 use Rattle.rm_catalog.specs.declared.record.PartEntry.{PartEntry}
-use Rattle.rm_history.specs.History.{IsHistory}
-use Rattle.rm_history.specs.Tree.{end_of}
-use Rattle.rm_evidence.specs.Names.{site_name}
-use Rattle.rm_evidence.specs.Objects.{HasDigest}
-use Rattle.rm_catalog_typed.specs.Facts.{IsTypedCatalog}
-use Rattle.rm_catalog_typed.specs.TypedCatalog.{TypedCatalog, Saved}
-use Rattle.rm_machine.specs.Effect.{Artefact, Made}
-use Rattle.rm_machine.specs.Loading.{IsLoaded}
-use Rattle.rm_machine.specs.Machine.{HaveArtefacts, HoldsUnder, IsTrueArtefact, Machine}
-use Rattle.rm_machine.specs.Saved.{IsOfPart, spelling_of}
-use Rattle.rm_machine.specs.declared.state.State.{State}
-use Rattle.rm_catalog_typed.specs.Worlds.{world_of}
+use Rattle.rm_history.specs.{History.{IsHistory}, Tree.{end_of}}
+use Rattle.rm_evidence.specs.{Names.{site_name}, Objects.{HasDigest}}
+use Rattle.rm_catalog_typed.specs.{Facts.{IsTypedCatalog}, TypedCatalog.{TypedCatalog, Saved}, Worlds.{world_of}}
+use Rattle.rm_machine.specs.{Effect.{Artefact, Made}, Loading.{IsLoaded}, Machine.{HaveArtefacts, HoldsUnder, IsTrueArtefact, Machine}}
+use Rattle.rm_machine.specs.{Saved.{IsOfPart, spelling_of}, declared.state.State.{State}}
 
 pub record Rest : Type 0 where
   -- the records of the database, where there is one

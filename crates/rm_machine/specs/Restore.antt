@@ -1,30 +1,17 @@
 -- RESTORE (DATABASE | DATAFILE f) [UNTIL ..], and RESTORE DATABASE [UNTIL ..] PREVIEW
 use Rattle.std.specs.Prelude.{ℕ, ◌≡◌, is_none, if◌then◌else◌, false, Option, Some, None, List, [], ◌∷◌, ◌++◌, map}
-use Rattle.rm_base.specs.Store.{Held}
-use Rattle.rm_base.specs.declared.kinds.Bad.{Bad}
-use Rattle.rm_base.specs.declared.refusal.Refusal.{Refusal}
-use Rattle.rm_base.specs.declared.refusal.Refusal.TheVariants.{Rm04, Rm05}
+use Rattle.rm_base.specs.{Store.{Held}, declared.{kinds.Bad.{Bad}, refusal.Refusal.{Refusal, TheVariants.{Rm04, Rm05}}}}
 use Rattle.rm_base.specs.declared.refusal.Absent.TheVariants as absent
 use Rattle.rm_blocks.specs.File.{File}
 use Rattle.rm_lang_statement.specs.declared.command.Until.{Until}
-use Rattle.rm_plan.specs.declared.plan.Gap.{Gap}
-use Rattle.rm_plan.specs.Plan.{IsFileTarget}
-use Rattle.rm_apply.specs.declared.origin.Origin.{Origin}
-use Rattle.rm_apply.specs.declared.origin.Origin.TheVariants.{Backup, Created}
-use Rattle.rm_apply.specs.declared.recovering.Recovered.{Recovered}
-use Rattle.rm_apply.specs.Files.{AreExactly}
-use Rattle.rm_apply.specs.Preview.{Previews}
-use Rattle.rm_apply.specs.Restore.{Restores}
-use Rattle.rm_report.specs.declared.line.Line.{Line}
-use Rattle.rm_report.specs.declared.line.Line.TheVariants.{Complete, CreatedEmpty, GapIn, RestoredFrom}
+use Rattle.rm_plan.specs.{Plan.{IsFileTarget}, declared.plan.Gap.{Gap}}
+use Rattle.rm_apply.specs.{Files.{AreExactly}, Preview.{Previews}, Restore.{Restores}, declared.origin.Origin.{Origin}}
+use Rattle.rm_apply.specs.declared.{origin.Origin.TheVariants.{Backup, Created}, recovering.Recovered.{Recovered}}
+use Rattle.rm_report.specs.declared.line.Line.{Line, TheVariants.{Complete, CreatedEmpty, GapIn, RestoredFrom}}
 use Rattle.rm_catalog_typed.specs.TypedCatalog.{records_of}
-use Rattle.rm_machine.specs.Effect.{Outcome, done, no_effect, told}
-use Rattle.rm_machine.specs.Marks.{ids_refusal}
-use Rattle.rm_machine.specs.Recover.{recover_target}
-use Rattle.rm_machine.specs.Recovery.{in_place, range_refusal, skipped_lines, with_place}
-use Rattle.rm_machine.specs.declared.state.State.{State}
-use Rattle.rm_machine.specs.State.{datafile_at, tree, world, current_of}
-use Rattle.rm_machine.specs.Until.{or_else, until_refusal}
+use Rattle.rm_machine.specs.{Effect.{Outcome, done, no_effect, told}, Marks.{ids_refusal}, Recover.{recover_target}}
+use Rattle.rm_machine.specs.{Recovery.{in_place, range_refusal, skipped_lines, with_place}, State.{datafile_at, tree, world, current_of}}
+use Rattle.rm_machine.specs.{Until.{or_else, until_refusal}, declared.state.State.{State}}
 
 -- why a datafile is refused that is named: it does not exist at the target
 abbrev pub absent_refusal : State → ℕ → Option ℕ → Option Refusal

@@ -1,28 +1,17 @@
 -- BACKUP INCREMENTAL FROM SCN: an increment of all datafiles, by which a standby is rolled forward
 use Rattle.std.specs.Prelude.{ℕ, ◌≡◌, ◌+◌, ◌||◌, nat_lt, if◌then◌else◌, true, false, Option, Some, None, List, [], ◌∷◌, length, map, sum_by}
 use Rattle.std.specs.Option.{option_map_or}
-use Rattle.rm_base.specs.declared.refusal.Limit.TheVariants.{Bytes, ObjectIds}
-use Rattle.rm_base.specs.declared.refusal.Refusal.{Refusal}
-use Rattle.rm_base.specs.declared.refusal.Refusal.TheVariants.{Rm04, Rm06, Rm09, Rm11}
-use Rattle.rm_catalog_typed.specs.Changes.{with_base}
-use Rattle.rm_catalog_typed.specs.TypedCatalog.{TypedCatalog}
+use Rattle.rm_base.specs.declared.refusal.{Limit.TheVariants.{Bytes, ObjectIds}, Refusal.{Refusal, TheVariants.{Rm04, Rm06, Rm09, Rm11}}}
+use Rattle.rm_catalog_typed.specs.{Changes.{with_base}, TypedCatalog.{TypedCatalog}}
 use Rattle.rm_commit.specs.declared.commit.Object.{Object}
 use Rattle.rm_evidence.specs.Names.{roll_name}
 use Rattle.rm_history.specs.Tree.{reset_of}
 use Rattle.rm_lang_statement.specs.declared.command.BackupForm.{BackupForm}
-use Rattle.rm_machine.specs.Backup.{lost_taken, rows_in, taken}
-use Rattle.rm_machine.specs.BackupOutcome.{begun}
-use Rattle.rm_machine.specs.BackupRefusal.{damage_refusal}
-use Rattle.rm_machine.specs.Effect.{Effect, Outcome, done}
-use Rattle.rm_machine.specs.MadeSets.{member_by}
-use Rattle.rm_machine.specs.Marks.{lacks_bytes, lacks_ids, set_bytes}
-use Rattle.rm_machine.specs.State.{ledger, tree, world, current_of, now_of}
-use Rattle.rm_machine.specs.declared.state.State.{State}
-use Rattle.rm_piece.specs.SetSpelling.{set_spelling}
-use Rattle.rm_piece.specs.declared.set.Set.{Set}
-use Rattle.rm_piece.specs.declared.set.SetFile.{SetFile}
-use Rattle.rm_report.specs.declared.line.Line.{Line}
-use Rattle.rm_report.specs.declared.line.Line.TheVariants.{Rolled}
+use Rattle.rm_machine.specs.{Backup.{lost_taken, rows_in, taken}, BackupOutcome.{begun}, BackupRefusal.{damage_refusal}}
+use Rattle.rm_machine.specs.{Effect.{Effect, Outcome, done}, MadeSets.{member_by}, Marks.{lacks_bytes, lacks_ids, set_bytes}}
+use Rattle.rm_machine.specs.{State.{ledger, tree, world, current_of, now_of}, declared.state.State.{State}}
+use Rattle.rm_piece.specs.{SetSpelling.{set_spelling}, declared.set.{Set.{Set}, SetFile.{SetFile}}}
+use Rattle.rm_report.specs.declared.line.Line.{Line, TheVariants.{Rolled}}
 
 -- BACKUP INCREMENTAL LEVEL 1 DATABASE FILESPERSET 64: all datafiles of the current path, in one set
 abbrev pub of_all : BackupForm

@@ -3,18 +3,10 @@ use Rattle.std.specs.Prelude.{ℕ, ◌≡◌, ◌≤◌, ◌<◌, ◌+◌, ◌-�
 use Rattle.rm_blocks.specs.File.{File}
 use Rattle.rm_history.specs.Tree.{end_of}
 use Rattle.rm_channel.specs.declared.jobs.WriteJob.{WriteJob}
-use Rattle.rm_live.specs.declared.history.Call.{Call}
-use Rattle.rm_live.specs.declared.history.Call.TheVariants.{Mend, Read, Write}
-use Rattle.rm_live.specs.declared.history.Event.{Event}
-use Rattle.rm_live.specs.History.{IsLegal, fold_of}
-use Rattle.rm_live.specs.Parts.{Parts}
-use Rattle.rm_live.specs.Ruled.{total}
-use Rattle.rm_catalog_typed.specs.Changes.{with_end_at}
-use Rattle.rm_catalog_typed.specs.TypedCatalog.{TypedCatalog}
-use Rattle.rm_machine.specs.Events.{opening}
-use Rattle.rm_machine.specs.Marks.{marks_before}
-use Rattle.rm_machine.specs.Sound.{IsSound}
-use Rattle.rm_machine.specs.declared.state.State.{State}
+use Rattle.rm_live.specs.{History.{IsLegal, fold_of}, Parts.{Parts}, Ruled.{total}, declared.history.Call.{Call}}
+use Rattle.rm_live.specs.declared.history.{Call.TheVariants.{Mend, Read, Write}, Event.{Event}}
+use Rattle.rm_catalog_typed.specs.{Changes.{with_end_at}, TypedCatalog.{TypedCatalog}}
+use Rattle.rm_machine.specs.{Events.{opening}, Marks.{marks_before}, Sound.{IsSound}, declared.state.State.{State}}
 
 -- the datafile has one of these numbers
 abbrev pub HasNumber : ℕ → File → Type 0

@@ -1,23 +1,13 @@
 -- A saved site: what was saved of a database, and which of its parts are good.
 use Rattle.std.specs.Prelude.{ℕ, ◌≡◌, ◌-◌, ◌<◌, ◌≤◌, ◌==◌, ◌&&◌, Bool, true, Option, Some, None, IsSomeAnd, List, [], All, find, map, slice_get}
-use Rattle.rm_base.specs.Store.{Held}
-use Rattle.rm_base.specs.declared.kinds.Kind.TheVariants.{Place}
+use Rattle.rm_base.specs.{Store.{Held}, declared.kinds.Kind.TheVariants.{Place}}
 use Rattle.rm_catalog.specs.declared.record.PartEntry.{PartEntry}
-use Rattle.rm_history.specs.declared.world.Datafile.{Datafile}
-use Rattle.rm_history.specs.Tree.{IsThere, reset_of, end_of}
-use Rattle.rm_catalog_typed.specs.Ledger.{Ledger}
-use Rattle.rm_catalog_typed.specs.Switches.{is_enabled_in}
-use Rattle.rm_evidence.specs.Names.{site_name}
-use Rattle.rm_evidence.specs.Objects.{HasDigest}
-use Rattle.rm_piece.specs.declared.piece.Piece.{Piece}
-use Rattle.rm_piece.specs.SetSpelling.{set_spelling}
-use Rattle.rm_piece.specs.Spelling as piece_format
-use Rattle.rm_piece.specs.Valid.{IsPiece}
-use Rattle.rm_redo.specs.declared.log_file.LogFile.{LogFile}
+use Rattle.rm_history.specs.{Tree.{IsThere, reset_of, end_of}, declared.world.Datafile.{Datafile}}
+use Rattle.rm_catalog_typed.specs.{Ledger.{Ledger}, Switches.{is_enabled_in}, TypedCatalog.{Saved}}
+use Rattle.rm_evidence.specs.{Names.{site_name}, Objects.{HasDigest}}
+use Rattle.rm_piece.specs.{Spelling as piece_format, SetSpelling.{set_spelling}, Valid.{IsPiece}, declared.piece.Piece.{Piece}}
+use Rattle.rm_redo.specs.{LogFormat as log_format, LogFormat.{IsLogFile}, declared.log_file.LogFile.{LogFile}}
 use Rattle.rm_redo.specs.declared.online.LogRecord.{LogRecord}
-use Rattle.rm_redo.specs.LogFormat as log_format
-use Rattle.rm_redo.specs.LogFormat.{IsLogFile}
-use Rattle.rm_catalog_typed.specs.TypedCatalog.{Saved}
 use Rattle.rm_machine.specs.Effect.{Artefact, a_log, a_piece, a_set}
 
 -- the part of a datafile, and that of a redo thread

@@ -3,27 +3,14 @@ use Rattle.std.specs.Prelude.{ℕ, ◌≡◌, ◌+◌, ◌&&◌, not, if◌then�
 use Rattle.std.specs.Option.{option_map, option_map_or}
 use Rattle.sha2.specs.Sha256.{sha256}
 use Rattle.rm_blocks.specs.File.{File}
-use Rattle.rm_catalog.specs.declared.record.HeadEntry.{HeadEntry}
-use Rattle.rm_catalog.specs.declared.record.PartEntry.{PartEntry}
-use Rattle.rm_commit.specs.declared.commit.Object.{Object}
-use Rattle.rm_commit.specs.Names.{HasPuts}
-use Rattle.rm_evidence.specs.Gathered.{placed_piece}
-use Rattle.rm_evidence.specs.Names.{site_name}
-use Rattle.rm_redo.specs.declared.online.ThreadLog.{ThreadLog}
-use Rattle.rm_redo.specs.Logs.{Logs}
-use Rattle.rm_redo.specs.Online.{counted_as, lost_log, no_log}
-use Rattle.rm_catalog_typed.specs.Changes.{with_base, with_saved}
-use Rattle.rm_catalog_typed.specs.Switches.{enabled_at}
-use Rattle.rm_catalog_typed.specs.TypedCatalog.{TypedCatalog, Saved}
-use Rattle.rm_machine.specs.declared.state.State.{State}
-use Rattle.rm_machine.specs.Damage.{without_damaged}
-use Rattle.rm_machine.specs.Effect.{Artefact, a_log, a_piece, Made}
-use Rattle.rm_machine.specs.Machine.{Machine}
-use Rattle.rm_machine.specs.Marks.{lacks_ids}
-use Rattle.rm_machine.specs.Rest.{Rest, at_rest}
-use Rattle.rm_machine.specs.Saved.{spelling_of}
-use Rattle.rm_machine.specs.State.{ledger, current_of, now_of, counted, online}
-use Rattle.rm_machine.specs.Tracked.{first_tracker}
+use Rattle.rm_catalog.specs.declared.record.{HeadEntry.{HeadEntry}, PartEntry.{PartEntry}}
+use Rattle.rm_commit.specs.{Names.{HasPuts}, declared.commit.Object.{Object}}
+use Rattle.rm_evidence.specs.{Gathered.{placed_piece}, Names.{site_name}}
+use Rattle.rm_redo.specs.{Logs.{Logs}, Online.{counted_as, lost_log, no_log}, declared.online.ThreadLog.{ThreadLog}}
+use Rattle.rm_catalog_typed.specs.{Changes.{with_base, with_saved}, Switches.{enabled_at}, TypedCatalog.{TypedCatalog, Saved}}
+use Rattle.rm_machine.specs.{Damage.{without_damaged}, Effect.{Artefact, a_log, a_piece, Made}, Machine.{Machine}, Marks.{lacks_ids}}
+use Rattle.rm_machine.specs.{Rest.{Rest, at_rest}, Saved.{spelling_of}, State.{ledger, current_of, now_of, counted, online}}
+use Rattle.rm_machine.specs.{Tracked.{first_tracker}, declared.state.State.{State}}
 
 -- a part: of a datafile, and then thread is 0, or of a redo thread, and then file is 0
 pub record SitePart : Type 0 where

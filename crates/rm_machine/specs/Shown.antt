@@ -1,15 +1,11 @@
 -- REPORT SCHEMA and SHOW ALL
 use Rattle.std.specs.Prelude.{ℕ, ◌≡◌, ◌+◌, if◌then◌else◌, Option, Some, None, List, [], ◌∷◌}
 use Rattle.rm_blocks.specs.File.{File}
-use Rattle.rm_history.specs.declared.world.Datafile.{Datafile}
-use Rattle.rm_history.specs.World.{exists}
-use Rattle.rm_report.specs.declared.line.Line.{Line}
-use Rattle.rm_report.specs.declared.line.Line.TheVariants.{Parallelism, Retention, Schema, Tracking}
-use Rattle.rm_report.specs.declared.line.SchemaPlace.{SchemaPlace}
+use Rattle.rm_history.specs.{World.{exists}, declared.world.Datafile.{Datafile}}
+use Rattle.rm_report.specs.declared.line.{Line.{Line, TheVariants.{Parallelism, Retention, Schema, Tracking}}, SchemaPlace.{SchemaPlace}}
 use Rattle.rm_report.specs.declared.line.SchemaPlace.TheVariants.{At, Lost, OffPath}
-use Rattle.rm_machine.specs.Effect.{Outcome, told}
+use Rattle.rm_machine.specs.{Effect.{Outcome, told}, State.{counted, current_of, ledger, now_of, placed, world}}
 use Rattle.rm_machine.specs.declared.state.State.{State}
-use Rattle.rm_machine.specs.State.{counted, current_of, ledger, now_of, placed, world}
 
 -- what stands in place of a datafile stands at its checkpoint, in an open database at `now`; or it is lost
 abbrev pub stands_at : State → Option File → SchemaPlace

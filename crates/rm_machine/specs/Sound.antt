@@ -2,21 +2,13 @@
 use Rattle.std.specs.Prelude.{ℕ, ◌≡◌, ◌<◌, ◌≤◌, ◌+◌, ◌^◌, true, false, Option, Some, None, List, All, length, slice_get}
 use Rattle.rm_base.specs.declared.block.Row.{Row}
 use Rattle.rm_blocks.specs.File.{File, IsInOrder}
-use Rattle.rm_history.specs.Artefacts.{high_of}
-use Rattle.rm_history.specs.declared.tree.Incarnation.{Incarnation}
+use Rattle.rm_history.specs.{Artefacts.{high_of}, Tree.{IsThere, reset_of, end_of}, World.{exists}, declared.tree.Incarnation.{Incarnation}}
 use Rattle.rm_history.specs.declared.world.Datafile.{Datafile}
-use Rattle.rm_history.specs.Tree.{IsThere, reset_of, end_of}
-use Rattle.rm_history.specs.World.{exists}
-use Rattle.rm_redo.specs.declared.log_file.LogFile.{LogFile}
-use Rattle.rm_redo.specs.LogFormat.{IsLogFile}
+use Rattle.rm_redo.specs.{LogFormat.{IsLogFile}, Online.{IsThread, has_log, no_log}, declared.log_file.LogFile.{LogFile}}
 use Rattle.rm_redo.specs.declared.online.ThreadLog.{ThreadLog}
-use Rattle.rm_redo.specs.Online.{IsThread, has_log, no_log}
-use Rattle.rm_catalog_typed.specs.Facts.{IsTypedCatalog}
-use Rattle.rm_catalog_typed.specs.Switches.{is_enabled_in}
-use Rattle.rm_machine.specs.declared.state.State.{State}
-use Rattle.rm_machine.specs.State.{ledger, tree, world, current_of, now_of, counted, online, redo_end, is_lost}
-use Rattle.rm_machine.specs.Damage.{AreDamaged}
-use Rattle.rm_machine.specs.Tracked.{AreTracked}
+use Rattle.rm_catalog_typed.specs.{Facts.{IsTypedCatalog}, Switches.{is_enabled_in}}
+use Rattle.rm_machine.specs.{State.{ledger, tree, world, current_of, now_of, counted, online, redo_end, is_lost}, Damage.{AreDamaged}}
+use Rattle.rm_machine.specs.{Tracked.{AreTracked}, declared.state.State.{State}}
 
 -- the version is that of a change, and the content has 64 bytes
 pub record IsPlacedRow (r : Row) : Type 0 where

@@ -1,21 +1,12 @@
 -- What a database at hand shows: its incarnations, what stands in place, and its logs.
 use Rattle.std.specs.Prelude.{ℕ, ◌-◌, ◌==◌, ◌&&◌, ◌||◌, not, if◌then◌else◌, Bool, false, Option, Some, None, List, slice_get, slice_index_or}
-use Rattle.std.specs.List.{list_any}
-use Rattle.std.specs.Option.{option_and_then, option_map_or}
+use Rattle.std.specs.{List.{list_any}, Option.{option_and_then, option_map_or}}
 use Rattle.rm_blocks.specs.File.{File, standing}
-use Rattle.rm_history.specs.declared.tree.Incarnation.{Incarnation}
-use Rattle.rm_history.specs.declared.world.Datafile.{Datafile}
+use Rattle.rm_history.specs.{Tree.{end_of}, World.{file_of, exists}, declared.{tree.Incarnation.{Incarnation}, world.Datafile.{Datafile}}}
 use Rattle.rm_history.specs.declared.world.World.{World}
-use Rattle.rm_history.specs.Tree.{end_of}
-use Rattle.rm_history.specs.World.{file_of, exists}
-use Rattle.rm_catalog_typed.specs.Ledger.{Ledger}
-use Rattle.rm_catalog_typed.specs.Worlds.{world_of}
-use Rattle.rm_redo.specs.declared.log_file.LogFile.{LogFile}
-use Rattle.rm_redo.specs.LogFile.{log_file_of}
-use Rattle.rm_redo.specs.Logs.{Logs}
-use Rattle.rm_redo.specs.Online.{has_log}
+use Rattle.rm_catalog_typed.specs.{Ledger.{Ledger}, Worlds.{world_of}, Changes.{with_moment, without_saved}}
+use Rattle.rm_redo.specs.{LogFile.{log_file_of}, Logs.{Logs}, Online.{has_log}, declared.log_file.LogFile.{LogFile}}
 use Rattle.rm_machine.specs.declared.state.State.{State}
-use Rattle.rm_catalog_typed.specs.Changes.{with_moment, without_saved}
 
 -- the records of its database, a saved site left aside
 abbrev pub ledger : State → Ledger

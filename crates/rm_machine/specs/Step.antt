@@ -1,59 +1,34 @@
 -- One step of the machine, and runs.
 use Rattle.std.specs.Prelude.{ℕ, ◌≡◌, true, false, Option, Some, None, List, [], ◌∷◌, ◌++◌, All, length}
-use Rattle.rm_base.specs.Store.{Held}
-use Rattle.rm_base.specs.declared.block.Change.{Change}
-use Rattle.rm_base.specs.declared.kinds.Class.TheVariants as class
-use Rattle.rm_base.specs.declared.refusal.Refusal.{Refusal}
+use Rattle.rm_base.specs.{Store.{Held}, declared.{block.Change.{Change}, kinds.Class.TheVariants as class, refusal.Refusal.{Refusal}}}
 use Rattle.rm_base.specs.declared.refusal.Refusal.TheVariants.{Rm02, Rm03}
-use Rattle.rm_lang_statement.specs.declared.command.Command.{Command}
+use Rattle.rm_lang_statement.specs.{IsCommand.{is_command}, declared.command.Command.{Command}}
 use Rattle.rm_lang_statement.specs.declared.command.Command.TheVariants.{ArchiveLogCurrent, Backup, BackupFrom, BackupLogs, BlockRecover, CatalogName, ChangeBackup, Corrupt, CreateDatabase, CreateDatafile, Crosscheck, Cut, Damage, DeleteBackup, DeleteExpired, DeleteObsolete, Dump, ListArchived, ListBackup, ListCopy, ListCorruption, ListIncarnation, LoseDatafile, LoseLog, Mount, OpenPlain, OpenResetlogs, Parallelism, Preview, Recover, RecoverCopy, RecoverTest, Remove, Rename, ReportNeedBackup, ReportObsolete, ReportSchema, ResetDatabase, Restore, Retention, ShowAll, SwitchLogfile, SwitchThread, Tracking, ValidateAll, Write}
-use Rattle.rm_lang_statement.specs.IsCommand.{is_command}
-use Rattle.rm_report.specs.Reply as reply
-use Rattle.rm_report.specs.declared.line.Reply.{Reply}
+use Rattle.rm_report.specs.{Reply as reply, declared.line.Reply.{Reply}}
 use Rattle.rm_standby.specs.Standby.{HoldsSince}
-use Rattle.rm_machine.specs.Archive.{archive_all_refusal, IsArchiveOutcome}
-use Rattle.rm_machine.specs.Asked.{asked, writes_in}
-use Rattle.rm_machine.specs.BackupOutcome.{IsBackupOutcome}
-use Rattle.rm_machine.specs.BackupRefusal.{backup_refusal}
-use Rattle.rm_machine.specs.BackupLogs.{IsBackupLogsOutcome}
-use Rattle.rm_machine.specs.BlockRecover.{IsBlockRecoverOutcome}
-use Rattle.rm_machine.specs.BlockRecoverRefusal.{repair_refusal}
-use Rattle.rm_machine.specs.CatalogName.{IsCatalogOutcome}
+use Rattle.rm_machine.specs.{Archive.{archive_all_refusal, IsArchiveOutcome}, Asked.{asked, writes_in}, BackupOutcome.{IsBackupOutcome}}
+use Rattle.rm_machine.specs.{BackupRefusal.{backup_refusal}, BackupLogs.{IsBackupLogsOutcome}, BlockRecover.{IsBlockRecoverOutcome}}
+use Rattle.rm_machine.specs.{BlockRecoverRefusal.{repair_refusal}, CatalogName.{IsCatalogOutcome}}
 use Rattle.rm_machine.specs.Configure.{parallelism_refusal, retention_refusal, IsParallelismOutcome, IsRetentionOutcome}
-use Rattle.rm_machine.specs.Corrupt.{corrupt_refusal, IsCorruptOutcome, IsCorruptionOutcome}
-use Rattle.rm_machine.specs.CreateDatabase.{IsCreateOutcome}
+use Rattle.rm_machine.specs.{Corrupt.{corrupt_refusal, IsCorruptOutcome, IsCorruptionOutcome}, CreateDatabase.{IsCreateOutcome}}
 use Rattle.rm_machine.specs.CreateDatafile.{datafile_refusal, IsDatafileOutcome}
 use Rattle.rm_machine.specs.Mishaps.{IsCutOutcome, IsDamageOutcome, IsRemoveOutcome, IsRenameOutcome}
-use Rattle.rm_machine.specs.DisableThread.{disable_refusal, IsDisableOutcome}
-use Rattle.rm_machine.specs.Dump.{dump_refusal, IsDumpOutcome}
-use Rattle.rm_machine.specs.Effect.{Effect, LeavesObjects, Outcome, refused, told, done}
-use Rattle.rm_machine.specs.ListIncarnation.{IsListIncarnationOutcome}
-use Rattle.rm_machine.specs.Lists.{IsListOutcome}
-use Rattle.rm_machine.specs.EnableThread.{enable_refusal, IsEnableOutcome}
-use Rattle.rm_machine.specs.LoseDatafile.{lose_refusal, IsLoseOutcome}
-use Rattle.rm_machine.specs.LoseLog.{lose_log_refusal, IsLoseLogOutcome}
-use Rattle.rm_machine.specs.Machine.{Machine}
-use Rattle.rm_machine.specs.Marks.{ids_refusal}
-use Rattle.rm_machine.specs.Mount.{IsMountOutcome}
-use Rattle.rm_machine.specs.Obsolete.{IsDeleteObsoleteOutcome, IsNeedOutcome, IsReportOutcome, IsSafe}
-use Rattle.rm_machine.specs.Open.{open_refusal, IsOpenOutcome}
+use Rattle.rm_machine.specs.{DisableThread.{disable_refusal, IsDisableOutcome}, Dump.{dump_refusal, IsDumpOutcome}}
+use Rattle.rm_machine.specs.{Effect.{Effect, LeavesObjects, Outcome, refused, told, done}, ListIncarnation.{IsListIncarnationOutcome}}
+use Rattle.rm_machine.specs.{Lists.{IsListOutcome}, EnableThread.{enable_refusal, IsEnableOutcome}}
+use Rattle.rm_machine.specs.{LoseDatafile.{lose_refusal, IsLoseOutcome}, LoseLog.{lose_log_refusal, IsLoseLogOutcome}, Machine.{Machine}}
+use Rattle.rm_machine.specs.{Marks.{ids_refusal}, Mount.{IsMountOutcome}}
+use Rattle.rm_machine.specs.{Obsolete.{IsDeleteObsoleteOutcome, IsNeedOutcome, IsReportOutcome, IsSafe}, Open.{open_refusal, IsOpenOutcome}}
 use Rattle.rm_machine.specs.OpenResetlogs.{resetlogs_refusal, IsResetlogsOutcome}
 use Rattle.rm_machine.specs.Recover.{BringsTruly, IsRecoverOutcome, recover_refusal}
 use Rattle.rm_machine.specs.RecoverCopy.{recover_copy_refusal, IsRecoverCopyOutcome}
-use Rattle.rm_machine.specs.RecoverTest.{IsTestOutcome, TellsTruly, test_refusal}
-use Rattle.rm_machine.specs.Repair.{RepairsTruly}
+use Rattle.rm_machine.specs.{RecoverTest.{IsTestOutcome, TellsTruly, test_refusal}, Repair.{RepairsTruly}}
 use Rattle.rm_machine.specs.ResetDatabase.{reset_refusal, IsResetOutcome}
 use Rattle.rm_machine.specs.Restore.{preview_refusal, restore_refusal, IsPreviewOutcome, IsRestoreOutcome}
-use Rattle.rm_machine.specs.Roll.{increment, roll_refusal, IsRollOutcome}
-use Rattle.rm_machine.specs.Saved.{saved_names}
-use Rattle.rm_machine.specs.Shown.{IsSchemaOutcome, IsShowOutcome}
-use Rattle.rm_machine.specs.declared.state.State.{State}
-use Rattle.rm_machine.specs.State.{at_moment, world}
-use Rattle.rm_machine.specs.SwitchLogfile.{switch_refusal, IsSwitchOutcome}
-use Rattle.rm_machine.specs.Tracking.{IsTrackingOutcome}
+use Rattle.rm_machine.specs.{Roll.{increment, roll_refusal, IsRollOutcome}, Saved.{saved_names}, Shown.{IsSchemaOutcome, IsShowOutcome}}
+use Rattle.rm_machine.specs.{State.{at_moment, world}, SwitchLogfile.{switch_refusal, IsSwitchOutcome}, Tracking.{IsTrackingOutcome}}
 use Rattle.rm_machine.specs.Upkeep.{record_refusal, IsChangeOutcome, IsCrosscheckOutcome, IsDeleteExpiredOutcome, IsDeleteOutcome}
-use Rattle.rm_machine.specs.Validate.{IsValidateOutcome}
-use Rattle.rm_machine.specs.Write.{write_refusal, IsWriteOutcome}
+use Rattle.rm_machine.specs.{Validate.{IsValidateOutcome}, Write.{write_refusal, IsWriteOutcome}, declared.state.State.{State}}
 
 -- what it writes has 64 bytes
 abbrev pub HasContent : Command → Type 0

@@ -1,23 +1,16 @@
 -- ALTER SYSTEM SWITCH LOGFILE [THREAD t]
 use Rattle.std.specs.Prelude.{ℕ, ◌≡◌, ◌+◌, ◌*◌, ◌&&◌, nat_lt, nat_le, if◌then◌else◌, Bool, true, false, Option, Some, None, List, [], ◌∷◌, length}
 use Rattle.sha2.specs.Sha256.{sha256}
-use Rattle.rm_base.specs.declared.kinds.Status.TheVariants.{Available}
-use Rattle.rm_base.specs.declared.refusal.Refusal.{Refusal}
-use Rattle.rm_base.specs.declared.refusal.Refusal.TheVariants.{Rm04, Rm05, Rm11}
-use Rattle.rm_base.specs.declared.refusal.Absent.TheVariants.{Thread}
-use Rattle.rm_base.specs.declared.refusal.Limit.TheVariants.{Records, Bytes, ObjectIds, Sequences}
+use Rattle.rm_base.specs.declared.{kinds.Status.TheVariants.{Available}, refusal.Refusal.{Refusal, TheVariants.{Rm04, Rm05, Rm11}}}
+use Rattle.rm_base.specs.declared.refusal.{Absent.TheVariants.{Thread}, Limit.TheVariants.{Records, Bytes, ObjectIds, Sequences}}
 use Rattle.rm_catalog.specs.declared.record.LogEntry.{LogEntry}
 use Rattle.rm_evidence.specs.Names.{log_name}
+use Rattle.rm_redo.specs.{LogFormat.{spelling}, Online.{first_of, thread_records, sequence_of, switched}}
 use Rattle.rm_redo.specs.declared.log_file.LogFile.{LogFile}
-use Rattle.rm_redo.specs.LogFormat.{spelling}
-use Rattle.rm_redo.specs.Online.{first_of, thread_records, sequence_of, switched}
-use Rattle.rm_report.specs.declared.line.Line.TheVariants.{LogMade, NothingToArchive}
+use Rattle.rm_report.specs.declared.line.Line.{Line, TheVariants.{LogMade, NothingToArchive}}
 use Rattle.rm_catalog_typed.specs.Changes.{with_new_log}
-use Rattle.rm_machine.specs.Effect.{Outcome, done, a_log, Effect, no_effect}
-use Rattle.rm_report.specs.declared.line.Line.{Line}
-use Rattle.rm_machine.specs.Marks.{ids_refusal, lacks_bytes, lacks_ids, lacks_room}
-use Rattle.rm_machine.specs.declared.state.State.{State}
-use Rattle.rm_machine.specs.State.{ledger, redo_end, online, is_no_thread, is_online}
+use Rattle.rm_machine.specs.{Effect.{Outcome, done, a_log, Effect, no_effect}, Marks.{ids_refusal, lacks_bytes, lacks_ids, lacks_room}}
+use Rattle.rm_machine.specs.{State.{ledger, redo_end, online, is_no_thread, is_online}, declared.state.State.{State}}
 
 -- the thread has something to archive: its log is there and not lost, and its range is not empty
 abbrev pub is_due : State → ℕ → Bool

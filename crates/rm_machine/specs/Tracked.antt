@@ -1,15 +1,10 @@
 -- The bitmaps of an open database in which changes are tracked: which they are at its opening, and what is true of them.
 use Rattle.std.specs.Prelude.{ℕ, ◌≡◌, ◌≤◌, ◌<◌, ◌+◌, ◌&&◌, if◌then◌else◌, Bool, true, false, Some, IsSome, List, [], ◌∷◌, All, Contains, length}
-use Rattle.rm_history.specs.declared.world.Datafile.{Datafile}
+use Rattle.rm_history.specs.{Tree.{end_of, reset_of}, World.{blocks_of, creation_of, exists}, declared.world.Datafile.{Datafile}}
 use Rattle.rm_history.specs.declared.world.World.{World}
-use Rattle.rm_history.specs.Tree.{end_of, reset_of}
-use Rattle.rm_history.specs.World.{blocks_of, creation_of, exists}
-use Rattle.rm_track.specs.Bitmaps.{Bitmap, Tracked, fresh, switch_at, tracked_at}
-use Rattle.rm_track.specs.Told.{starts}
-use Rattle.rm_catalog_typed.specs.Ledger.{Ledger}
-use Rattle.rm_machine.specs.declared.state.State.{State}
-use Rattle.rm_machine.specs.State.{ledger, tree, world, current_of, now_of, on_path}
-use Rattle.rm_catalog_typed.specs.Worlds.{world_of}
+use Rattle.rm_track.specs.{Bitmaps.{Bitmap, Tracked, fresh, switch_at, tracked_at}, Told.{starts}}
+use Rattle.rm_catalog_typed.specs.{Ledger.{Ledger}, Worlds.{world_of}}
+use Rattle.rm_machine.specs.{State.{ledger, tree, world, current_of, now_of, on_path}, declared.state.State.{State}}
 
 -- of these datafiles, the first of number f, those that exist at (i, start), each tracked from `start` on
 abbrev pub fresh_from : World → ℕ → ℕ → ℕ → List Datafile → List Tracked

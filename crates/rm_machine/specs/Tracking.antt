@@ -1,12 +1,9 @@
 -- ALTER DATABASE (ENABLE | DISABLE) BLOCK CHANGE TRACKING
 use Rattle.std.specs.Prelude.{◌≡◌, Bool, [], ◌∷◌}
 use Rattle.rm_report.specs.declared.line.Line.TheVariants as line
-use Rattle.rm_catalog_typed.specs.Changes.{with_base}
-use Rattle.rm_catalog_typed.specs.TypedCatalog.{TypedCatalog}
-use Rattle.rm_machine.specs.Effect.{Outcome, done, no_effect}
+use Rattle.rm_catalog_typed.specs.{Changes.{with_base}, TypedCatalog.{TypedCatalog}}
+use Rattle.rm_machine.specs.{Effect.{Outcome, done, no_effect}, Tracked.{first_tracker, with_tracker}, Upkeep.{with_catalog}}
 use Rattle.rm_machine.specs.declared.state.State.{State}
-use Rattle.rm_machine.specs.Tracked.{first_tracker, with_tracker}
-use Rattle.rm_machine.specs.Upkeep.{with_catalog}
 
 -- the catalog with this setting
 abbrev pub with_setting : TypedCatalog → Bool → TypedCatalog

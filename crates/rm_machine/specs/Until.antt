@@ -1,20 +1,14 @@
 -- Where an UNTIL leads: to an SCN of an incarnation, or nowhere.
 use Rattle.std.specs.Prelude.{ℕ, ◌==◌, ◌&&◌, ◌||◌, if◌then◌else◌, Bool, Option, Some, None, List, filter, find, unwrap_or}
 use Rattle.std.specs.Option.{option_map, option_map_or}
-use Rattle.rm_base.specs.declared.block.Mark.{Mark}
-use Rattle.rm_base.specs.declared.refusal.Absent.TheVariants.{Thread}
-use Rattle.rm_base.specs.declared.refusal.Refusal.{Refusal}
-use Rattle.rm_base.specs.declared.refusal.Refusal.TheVariants.{Rm05, Rm12, Rm14}
-use Rattle.rm_base.specs.declared.refusal.Unknown.TheVariants.{Log}
+use Rattle.rm_base.specs.declared.{block.Mark.{Mark}, refusal.{Absent.TheVariants.{Thread}, Refusal.{Refusal}}}
+use Rattle.rm_base.specs.declared.refusal.{Refusal.TheVariants.{Rm05, Rm12, Rm14}, Unknown.TheVariants.{Log}}
 use Rattle.rm_catalog.specs.declared.record.LogEntry.{LogEntry}
 use Rattle.rm_history.specs.Tree.{end_of}
-use Rattle.rm_moments.specs.Marks.{first_from, last_until}
+use Rattle.rm_moments.specs.{Marks.{first_from, last_until}, Meant.{moment_meant}}
 use Rattle.rm_retain.specs.Window.{is_on_path}
-use Rattle.rm_lang_statement.specs.declared.command.Until.{Until}
-use Rattle.rm_lang_statement.specs.declared.command.Until.TheVariants.{Scn, Sequence, Time}
-use Rattle.rm_moments.specs.Meant.{moment_meant}
-use Rattle.rm_machine.specs.declared.state.State.{State}
-use Rattle.rm_machine.specs.State.{is_lost, is_no_thread, ledger, online, tree}
+use Rattle.rm_lang_statement.specs.declared.command.Until.{Until, TheVariants.{Scn, Sequence, Time}}
+use Rattle.rm_machine.specs.{State.{is_lost, is_no_thread, ledger, online, tree}, declared.state.State.{State}}
 
 -- the first option that has a value
 abbrev pub or_else : {X : Type 0} → Option X → Option X → Option X

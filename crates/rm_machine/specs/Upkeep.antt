@@ -1,33 +1,17 @@
 -- CHANGE BACKUP, DELETE BACKUP, CROSSCHECK and DELETE EXPIRED: records of logs, pieces and sets, by their ids and classes
 use Rattle.std.specs.Prelude.{ℕ, ◌≡◌, ◌==◌, ◌&&◌, is_none, if◌then◌else◌, Bool, true, false, Option, Some, None, List, [], ◌∷◌, ◌++◌, Contains, filter, find, length, map}
 use Rattle.std.specs.Option.{option_map_or}
-use Rattle.rm_base.specs.Store.{Held}
-use Rattle.rm_base.specs.declared.kinds.Class.{Class}
-use Rattle.rm_base.specs.declared.kinds.Status.{Status}
-use Rattle.rm_base.specs.declared.kinds.Status.TheVariants as status
-use Rattle.rm_base.specs.declared.refusal.Refusal.{Refusal}
-use Rattle.rm_base.specs.declared.refusal.Refusal.TheVariants.{Rm11, Rm12}
-use Rattle.rm_base.specs.declared.refusal.Limit.TheVariants.{ObjectIds}
-use Rattle.rm_base.specs.declared.refusal.Unknown.TheVariants.{Entry}
+use Rattle.rm_base.specs.{Store.{Held}, declared.{kinds.{Class.{Class}, Status.{Status, TheVariants as status}}, refusal.Refusal.{Refusal}}}
+use Rattle.rm_base.specs.declared.refusal.{Refusal.TheVariants.{Rm11, Rm12}, Limit.TheVariants.{ObjectIds}, Unknown.TheVariants.{Entry}}
 use Rattle.rm_apply.specs.Files.{AreExactly}
-use Rattle.rm_catalog.specs.declared.record.LogEntry.{LogEntry}
-use Rattle.rm_catalog.specs.declared.record.PieceEntry.{PieceEntry}
-use Rattle.rm_catalog.specs.declared.record.SetEntry.{SetEntry}
-use Rattle.rm_catalog.specs.declared.record.Record.{Record}
-use Rattle.rm_evidence.specs.Gathered.{Lists}
-use Rattle.rm_evidence.specs.Names.{log_name, piece_name, set_name}
-use Rattle.rm_report.specs.declared.line.Line.{Line}
-use Rattle.rm_report.specs.declared.line.Line.TheVariants as line
+use Rattle.rm_catalog.specs.declared.record.{LogEntry.{LogEntry}, PieceEntry.{PieceEntry}, SetEntry.{SetEntry}, Record.{Record}}
+use Rattle.rm_evidence.specs.{Gathered.{Lists}, Names.{log_name, piece_name, set_name}}
+use Rattle.rm_report.specs.declared.line.Line.{Line, TheVariants as line}
 use Rattle.rm_catalog_typed.specs.Changes.{with_log, with_piece, with_set, without_log, without_piece, without_set}
 use Rattle.rm_catalog_typed.specs.TypedCatalog.{TypedCatalog, records_of}
-use Rattle.rm_lang_statement.specs.declared.command.ChangeTo.{ChangeTo}
-use Rattle.rm_lang_statement.specs.declared.command.ChangeTo.TheVariants.{Available, Keep, NoKeep, Unavailable, Uncatalog}
-use Rattle.rm_verify.specs.declared.object.Expected.{Expected}
-use Rattle.rm_verify.specs.Classes.{is_of, object_in}
-use Rattle.rm_verify.specs.Crosscheck.{IsChecked, stands_in}
-use Rattle.rm_machine.specs.Effect.{Effect, Outcome, done, no_effect}
-use Rattle.rm_machine.specs.Marks.{lacks_ids}
-use Rattle.rm_machine.specs.declared.state.State.{State}
+use Rattle.rm_lang_statement.specs.declared.command.ChangeTo.{ChangeTo, TheVariants.{Available, Keep, NoKeep, Unavailable, Uncatalog}}
+use Rattle.rm_verify.specs.{Classes.{is_of, object_in}, Crosscheck.{IsChecked, stands_in}, declared.object.Expected.{Expected}}
+use Rattle.rm_machine.specs.{Effect.{Effect, Outcome, done, no_effect}, Marks.{lacks_ids}, declared.state.State.{State}}
 
 -- the database with this catalog
 abbrev pub with_catalog : State → TypedCatalog → State

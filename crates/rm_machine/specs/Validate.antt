@@ -1,17 +1,10 @@
 -- VALIDATE ALL
 use Rattle.std.specs.Prelude.{ℕ, ◌≡◌, ◌+◌, Bool, true, false, List, [], ◌∷◌, ◌++◌, count_by, length, map}
-use Rattle.rm_base.specs.Store.{Held}
-use Rattle.rm_base.specs.declared.kinds.Bad.{Bad}
-use Rattle.rm_base.specs.declared.kinds.Status.{Status}
-use Rattle.rm_base.specs.declared.kinds.Status.TheVariants.{Available}
-use Rattle.rm_evidence.specs.Available.{IsSkipped}
-use Rattle.rm_evidence.specs.Gathered.{Lists}
-use Rattle.rm_catalog_typed.specs.Ledger.{Ledger}
+use Rattle.rm_base.specs.{Store.{Held}, declared.kinds.{Bad.{Bad}, Status.{Status, TheVariants.{Available}}}}
+use Rattle.rm_evidence.specs.{Available.{IsSkipped}, Gathered.{Lists}}
+use Rattle.rm_catalog_typed.specs.{Ledger.{Ledger}, TypedCatalog.{records_of}}
 use Rattle.rm_report.specs.declared.line.Line.TheVariants.{BadOf, Checked}
-use Rattle.rm_catalog_typed.specs.TypedCatalog.{records_of}
-use Rattle.rm_machine.specs.Effect.{Outcome, told}
-use Rattle.rm_machine.specs.declared.state.State.{State}
-use Rattle.rm_machine.specs.State.{ledger}
+use Rattle.rm_machine.specs.{Effect.{Outcome, told}, State.{ledger}, declared.state.State.{State}}
 
 -- a record of this status counts as available
 abbrev pub is_available : Status → Bool

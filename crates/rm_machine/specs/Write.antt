@@ -1,23 +1,18 @@
 -- WRITE [THREAD t] DATAFILE f BLOCK b VALUE 'v'
 use Rattle.std.specs.Prelude.{◌≡◌, ◌-◌, nat_le, if◌then◌else◌, is_none, true, Option, Some, None, [], ◌∷◌, length, slice_set}
 use Rattle.std.specs.Option.{option_map, option_map_or}
-use Rattle.rm_base.specs.Numbers.{last_scn}
-use Rattle.rm_base.specs.declared.block.Change.{Change}
-use Rattle.rm_base.specs.declared.refusal.Refusal.{Refusal}
+use Rattle.rm_base.specs.{Numbers.{last_scn}, declared.{block.Change.{Change}, refusal.Refusal.{Refusal}}}
 use Rattle.rm_base.specs.declared.refusal.Refusal.TheVariants.{Rm04, Rm05, Rm09, Rm11, Rm15, Rm17}
-use Rattle.rm_base.specs.declared.refusal.Absent.TheVariants.{Thread, File, Block}
-use Rattle.rm_base.specs.declared.refusal.Limit.TheVariants.{Records, ObjectIds, LogRecords}
+use Rattle.rm_base.specs.declared.refusal.{Absent.TheVariants.{Thread, File, Block}, Limit.TheVariants.{Records, ObjectIds, LogRecords}}
 use Rattle.rm_blocks.specs.File.{written}
 use Rattle.rm_history.specs.declared.world.Datafile.{Datafile}
 use Rattle.rm_redo.specs.Online.{thread_records, with_change}
 use Rattle.rm_track.specs.Bitmaps.{mark_at}
 use Rattle.rm_lang_statement.specs.declared.command.WriteForm.{WriteForm}
 use Rattle.rm_report.specs.declared.line.Line.TheVariants.{Written}
-use Rattle.rm_machine.specs.Effect.{Outcome, done, no_effect}
-use Rattle.rm_machine.specs.Damage.{has_block}
+use Rattle.rm_machine.specs.{Effect.{Outcome, done, no_effect}, Damage.{has_block}}
 use Rattle.rm_machine.specs.Marks.{lacks_ids, lacks_room, marks_before, one_further}
-use Rattle.rm_machine.specs.declared.state.State.{State}
-use Rattle.rm_machine.specs.State.{current_of, is_no_thread, now_of, on_path, placed}
+use Rattle.rm_machine.specs.{State.{current_of, is_no_thread, now_of, on_path, placed}, declared.state.State.{State}}
 
 -- why it is refused, where its thread has an online log and its datafile is there
 abbrev pub block_refusal : State → WriteForm → Datafile → Option Refusal

@@ -1,11 +1,9 @@
 //! Why the writes of a DURING are refused.
-ghost use Rattle.std.specs.Prelude.{◌≡◌, ◌<◌, ◌≤◌, ◌+◌, None, length, nat_lt};
-ghost use Rattle.std.specs.Option.{option_map};
+ghost use Rattle.std.specs.{Prelude.{◌≡◌, ◌<◌, ◌≤◌, ◌+◌, None, length, nat_lt}, Option.{option_map}};
 ghost use Rattle.rm_base.specs.Numbers.{last_scn};
 ghost use Rattle.rm_machine.specs.Asked.{FitsNumbers, by_thread};
 ghost use Rattle.rm_machine.specs.BackupRefusal.{absent_in, absent_of, block_of, damaged_write, lacks_log, lacks_logs, lost_of, marks_for};
-ghost use Rattle.rm_machine.specs.Sound.{IsSound};
-ghost use Rattle.rm_machine.specs.State.{now_of};
+ghost use Rattle.rm_machine.specs.{Sound.{IsSound}, State.{now_of}};
 ghost use Rattle.rm_redo.specs.Online.{thread_records};
 
 use crate::damage::is_damaged;

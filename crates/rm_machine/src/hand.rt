@@ -1,10 +1,7 @@
 //! What is at hand beside the store: the records of the catalog, and what is in place.
-ghost use Rattle.std.specs.Prelude.{◌≡◌, ◌≤◌, ◌<◌, ◌∷◌, ◌++◌, [], if◌then◌else◌, IfOk, None, OnOk, map, cond};
-ghost use Rattle.std.specs.List.{filter_map};
+ghost use Rattle.std.specs.{Prelude.{◌≡◌, ◌≤◌, ◌<◌, ◌∷◌, ◌++◌, [], if◌then◌else◌, IfOk, None, OnOk, map, cond}, List.{filter_map}};
 ghost use Rattle.std.specs.Option.{option_copied};
-ghost use Rattle.rm_machine.specs.Damage.{has_file, undamaged};
-ghost use Rattle.rm_machine.specs.Recovery.{in_place, online_logs};
-ghost use Rattle.rm_machine.specs.Sound.{IsSound};
+ghost use Rattle.rm_machine.specs.{Damage.{has_file, undamaged}, Recovery.{in_place, online_logs}, Sound.{IsSound}};
 ghost use Rattle.rm_machine.specs.State.{counted, is_online, online};
 ghost use Rattle.rm_redo.specs.Online.{IsThread};
 ghost use Rattle.rm_catalog_typed.specs.TypedCatalog.{records_of};

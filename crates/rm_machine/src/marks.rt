@@ -3,8 +3,7 @@ ghost use Rattle.std.specs.Prelude.{◌≡◌, ◌<◌, ◌≤◌, OnOk, false, 
 ghost use Rattle.rm_base.specs.Numbers.{last_scn};
 ghost use Rattle.rm_machine.specs.BackupRefusal.{marks_for};
 ghost use Rattle.rm_machine.specs.Marks.{lacks_room, last_marked, listed, mark_now, marked_for, marks_before, one_further, with_marks};
-ghost use Rattle.rm_machine.specs.Sound.{IsSound};
-ghost use Rattle.rm_machine.specs.State.{now_of};
+ghost use Rattle.rm_machine.specs.{Sound.{IsSound}, State.{now_of}};
 ghost use Rattle.rm_catalog_typed.specs.Changes.{EditsFollow};
 
 use crate::facts::now;

@@ -1,9 +1,7 @@
 //! An open database is mounted.
-ghost use Rattle.std.specs.Prelude.{◌≡◌, map};
-ghost use Rattle.std.specs.Option.{option_map};
+ghost use Rattle.std.specs.{Prelude.{◌≡◌, map}, Option.{option_map}};
 ghost use Rattle.rm_blocks.specs.File.{standing};
-ghost use Rattle.rm_machine.specs.Mount.{as_mounted, mount_point, mounted};
-ghost use Rattle.rm_machine.specs.Sound.{IsSound};
+ghost use Rattle.rm_machine.specs.{Mount.{as_mounted, mount_point, mounted}, Sound.{IsSound}};
 
 use crate::damage::lose_damaged;
 use crate::facts::{first_lost, now};

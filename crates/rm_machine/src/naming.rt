@@ -1,9 +1,7 @@
 //! The names of the objects of records.
 ghost use Rattle.std.specs.Prelude.{◌≡◌, ◌==◌, ◌++◌, OnOk, filter, map};
 ghost use Rattle.rm_evidence.specs.Names.{log_name, piece_name, set_name};
-ghost use Rattle.rm_machine.specs.Sound.{IsSound};
-ghost use Rattle.rm_machine.specs.State.{ledger};
-ghost use Rattle.rm_machine.specs.Upkeep.{names_at};
+ghost use Rattle.rm_machine.specs.{Sound.{IsSound}, State.{ledger}, Upkeep.{names_at}};
 
 use crate::state::State;
 use rm_base::{NoMemory, Seq, Text};

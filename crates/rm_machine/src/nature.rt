@@ -1,8 +1,6 @@
 //! The nature of a statement, and what follows of it.
 ghost use Rattle.std.specs.Prelude.{◌≡◌};
-ghost use Rattle.rm_machine.specs.Built.{is_built};
-ghost use Rattle.rm_machine.specs.Laws.{only_tells};
-ghost use Rattle.rm_machine.specs.Nature.{nature_of};
+ghost use Rattle.rm_machine.specs.{Built.{is_built}, Laws.{only_tells}, Nature.{nature_of}};
 
 use rm_lang_statement::Command;
 

@@ -1,8 +1,7 @@
 //! The records of a state, as a list, and the record of a log that is made.
 ghost use Rattle.std.specs.Prelude.{◌≡◌, IfOk};
 ghost use Rattle.rm_catalog.specs.Rules.{HasDatabase};
-ghost use Rattle.rm_machine.specs.Sound.{IsSound};
-ghost use Rattle.rm_machine.specs.SwitchLogfile.{log_entry};
+ghost use Rattle.rm_machine.specs.{Sound.{IsSound}, SwitchLogfile.{log_entry}};
 ghost use Rattle.rm_catalog_typed.specs.TypedCatalog.{records_of};
 ghost use Rattle.rm_redo.specs.LogFormat.{spelling};
 ghost use Rattle.sha2.specs.Sha256.{sha256};

@@ -1,7 +1,6 @@
 //! Lines that several statements have, and what stands in such lines.
 ghost use Rattle.std.specs.Prelude.{◌≡◌, All, IfOk};
-ghost use Rattle.rm_machine.specs.Lists.{packing_by, shape_by};
-ghost use Rattle.rm_machine.specs.Recovery.{skipped_lines};
+ghost use Rattle.rm_machine.specs.{Lists.{packing_by, shape_by}, Recovery.{skipped_lines}};
 ghost use Rattle.rm_report.specs.Reply.{IsPlain};
 
 use rm_base::{Bad, Kind, NoMemory, Scn, Seq, Text};

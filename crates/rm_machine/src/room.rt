@@ -2,8 +2,7 @@
 ghost use Rattle.std.specs.Prelude.{◌≡◌, ◌≤◌, ◌<◌, ◌+◌, ◌*◌, ◌^◌, All, length, map, sum_by};
 ghost use Rattle.rm_history.specs.World.{blocks_of};
 ghost use Rattle.rm_catalog_typed.specs.Ledger.{ledger_records};
-ghost use Rattle.rm_machine.specs.Marks.{bytes_in, ids_refusal, lacks_bytes, lacks_ids, lacks_room, set_bytes};
-ghost use Rattle.rm_machine.specs.Sound.{IsSound};
+ghost use Rattle.rm_machine.specs.{Marks.{bytes_in, ids_refusal, lacks_bytes, lacks_ids, lacks_room, set_bytes}, Sound.{IsSound}};
 ghost use Rattle.rm_machine.specs.State.{ledger, world};
 
 use crate::facts::blocks_of;

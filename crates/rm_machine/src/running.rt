@@ -1,15 +1,10 @@
 //! The running database, taken out of a state so that it is live, and put back.
-ghost use Rattle.std.specs.Prelude.{◌≡◌, ◌≤◌, All, IfOk, List, OnOk, None, length, replicate, true};
-ghost use Rattle.std.specs.List.{filter_map};
+ghost use Rattle.std.specs.{Prelude.{◌≡◌, ◌≤◌, All, IfOk, List, OnOk, None, length, replicate, true}, List.{filter_map}};
 ghost use Rattle.rm_base.specs.Numbers.{last_scn};
 ghost use Rattle.rm_history.specs.Tree.{IsThere as IsIncarnation};
-ghost use Rattle.rm_live.specs.Parts.{IsNumbered, IsSound as IsSoundLive, parts_of};
-ghost use Rattle.rm_live.specs.declared.history.Event.{Event};
-ghost use Rattle.rm_machine.specs.Events.{after_events, opening};
-ghost use Rattle.rm_machine.specs.Running.{HasNumber, HasRun, IsTakenOut, at_home, risen};
-ghost use Rattle.rm_machine.specs.Sound.{IsSound};
-ghost use Rattle.rm_machine.specs.State.{current_of, ledger, tree};
-ghost use Rattle.rm_machine.specs.declared.state.State.{State};
+ghost use Rattle.rm_live.specs.{Parts.{IsNumbered, IsSound as IsSoundLive, parts_of}, declared.history.Event.{Event}};
+ghost use Rattle.rm_machine.specs.{Events.{after_events, opening}, Running.{HasNumber, HasRun, IsTakenOut, at_home, risen}};
+ghost use Rattle.rm_machine.specs.{Sound.{IsSound}, State.{current_of, ledger, tree}, declared.state.State.{State}};
 ghost use Rattle.rm_catalog_typed.specs.Changes.{EditsFollow};
 
 use crate::facts::now;

@@ -1,10 +1,8 @@
 //! The bitmaps of a database that is opened or loaded, or of which the setting is changed.
 ghost use Rattle.std.specs.Prelude.{◌≡◌, ◌<◌, if◌then◌else◌, IfOk, OnOk};
-ghost use Rattle.rm_history.specs.Tree.{end_of};
-ghost use Rattle.rm_history.specs.World.{exists};
+ghost use Rattle.rm_history.specs.{Tree.{end_of}, World.{exists}};
 ghost use Rattle.rm_track.specs.Bitmaps.{fresh, with_file};
-ghost use Rattle.rm_catalog_typed.specs.Facts.{IsTypedCatalog};
-ghost use Rattle.rm_catalog_typed.specs.Worlds.{world_of};
+ghost use Rattle.rm_catalog_typed.specs.{Facts.{IsTypedCatalog}, Worlds.{world_of}};
 ghost use Rattle.rm_machine.specs.Tracked.{first_tracker, fresh_from};
 
 use rm_base::{FileNo, NoMemory};

@@ -1,11 +1,7 @@
 //! Where an UNTIL leads.
-ghost use Rattle.std.specs.Prelude.{◌≡◌, ◌&&◌, find, nat_le, reverse};
-ghost use Rattle.std.specs.Option.{option_map};
+ghost use Rattle.std.specs.{Prelude.{◌≡◌, ◌&&◌, find, nat_le, reverse}, Option.{option_map}};
 ghost use Rattle.rm_history.specs.Tree.{IsThere};
-ghost use Rattle.rm_machine.specs.Recover.{recover_target};
-ghost use Rattle.rm_machine.specs.Recovery.{range_refusal};
-ghost use Rattle.rm_machine.specs.Sound.{IsSound};
-ghost use Rattle.rm_machine.specs.State.{ledger, tree};
+ghost use Rattle.rm_machine.specs.{Recover.{recover_target}, Recovery.{range_refusal}, Sound.{IsSound}, State.{ledger, tree}};
 ghost use Rattle.rm_machine.specs.Until.{is_log, log_first, marks_on, moment_in, nowhere_refusal, online_first, scn_at, target_of, thread_refusal};
 ghost use Rattle.rm_moments.specs.Marks.{first_from};
 ghost use Rattle.rm_retain.specs.Window.{is_on_path};

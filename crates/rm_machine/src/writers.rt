@@ -1,8 +1,7 @@
 //! What a DURING asks of its writers, and the lines of what they wrote.
 ghost use Rattle.std.specs.Prelude.{◌≡◌, ◌≤◌, ◌++◌, All, IfOk, OnOk, length, map};
 ghost use Rattle.rm_channel.specs.Jobs.{lists};
-ghost use Rattle.rm_machine.specs.Asked.{FitsNumbers, asked, by_thread, write_job, writers_in};
-ghost use Rattle.rm_machine.specs.BackupOutcome.{write_lines};
+ghost use Rattle.rm_machine.specs.{Asked.{FitsNumbers, asked, by_thread, write_job, writers_in}, BackupOutcome.{write_lines}};
 ghost use Rattle.rm_report.specs.declared.line.Line.TheVariants.{ThreadScn};
 
 use crate::facts::MOST_THREADS;

@@ -1,58 +1,29 @@
 -- CREATE DATAFILE leads on: one SCN further, a datafile is added.
-use Rattle.std.proofs.Common.{◌≡◌, ◌≢◌, ◌<◌, ◌≤◌, ◌+◌, ◌-◌, ◌∙◌, ◌++◌, ◌⊎◌, ◌^◌, nat_le, inl, inr, ℕ, zero, suc, List, [], ◌∷◌, Option, Some, None, IsSome, is_some, Bool, true, false, cond, refl, ap, sym, subst, arith, length, length-append, All, Contains, slice_get, slice_index_or}
 use Rattle.std.specs.Option.{option_and_then, option_map_or}
-use Rattle.std.proofs.lemmas.Bool.{and_parts, cases_eq, cases_lt, leb-true, ne_eqb}
-use Rattle.std.proofs.lemmas.List.{length-replicate}
+use Rattle.std.proofs.Common.{◌≡◌, ◌≢◌, ◌<◌, ◌≤◌, ◌+◌, ◌-◌, ◌∙◌, ◌++◌, ◌⊎◌, ◌^◌, nat_le, inl, inr, ℕ, zero, suc, List, [], ◌∷◌, Option, Some, None, IsSome, is_some, Bool, true, false, cond, refl, ap, sym, subst, arith, length, length-append, All, Contains, slice_get, slice_index_or}
+use Rattle.std.proofs.lemmas.{Bool.{and_parts, cases_eq, cases_lt, leb-true, ne_eqb}, List.{length-replicate}}
 use Rattle.std.proofs.lemmas.List.Elements.{All-contains, All-contains_itself, All-nil, All-push, All-weaker}
 use Rattle.std.proofs.lemmas.Option.{slice_get_past, slice_get_within}
-use Rattle.rm_base.specs.Created.{created_row}
-use Rattle.rm_base.specs.Store.{Held}
-use Rattle.rm_base.specs.declared.block.Change.{Change}
-use Rattle.rm_base.specs.declared.block.Row.{Row}
-use Rattle.rm_base.proofs.Members.{first-or-rest, none-in, slice_get-front}
-use Rattle.rm_base.proofs.Slots.{get-index, get-push, index-get}
-use Rattle.rm_blocks.specs.File.{File, created, created_rows, standing}
-use Rattle.rm_blocks.proofs.Rows.{in_order-created, length-created}
-use Rattle.rm_lang_statement.specs.declared.command.Command.TheVariants.{CreateDatafile}
-use Rattle.rm_history.specs.declared.tree.Incarnation.{Incarnation}
-use Rattle.rm_history.specs.declared.world.Datafile.{Datafile}
-use Rattle.rm_history.specs.declared.world.World.{World}
-use Rattle.rm_history.specs.State.{state}
-use Rattle.rm_history.specs.Tree.{IsThere, reset_of}
-use Rattle.rm_history.specs.World.{blocks_of, creation_of, exists, file_of, with_file}
-use Rattle.rm_history.proofs.Below.{state-untouched}
-use Rattle.rm_history.proofs.Highs.{high-bound}
-use Rattle.rm_history.proofs.Histories.{IsHistory-with_file}
+use Rattle.rm_base.specs.{Created.{created_row}, Store.{Held}, declared.block.{Change.{Change}, Row.{Row}}}
+use Rattle.rm_base.proofs.{Members.{first-or-rest, none-in, slice_get-front}, Slots.{get-index, get-push, index-get}}
+use Rattle.rm_blocks.{specs.File.{File, created, created_rows, standing}, proofs.Rows.{in_order-created, length-created}}
+use Rattle.rm_lang_statement.specs.{IsCommand.{is_command}, declared.command.Command.TheVariants.{CreateDatafile}}
+use Rattle.rm_history.specs.{State.{state}, Tree.{IsThere, reset_of}, World.{blocks_of, creation_of, exists, file_of, with_file}}
+use Rattle.rm_history.specs.declared.{tree.Incarnation.{Incarnation}, world.{Datafile.{Datafile}, World.{World}}}
+use Rattle.rm_history.proofs.{Below.{state-untouched}, Highs.{high-bound}, Histories.{IsHistory-with_file}}
 use Rattle.rm_history.proofs.Worlds.{BaseAgrees-with_file, Level1Agrees-with_file, file-there, file_of-kept, state-kept}
-use Rattle.rm_lang_statement.specs.IsCommand.{is_command}
-use Rattle.rm_track.specs.Bitmaps.{Bitmap, Tracked, fresh, tracked_at, with_file as with_tracked}
-use Rattle.rm_track.specs.Told.{Tell}
-use Rattle.rm_track.proofs.Places.{found-beside, found-new}
-use Rattle.rm_track.proofs.Telling.{new-file-tells}
-use Rattle.rm_catalog_typed.specs.Fitting.{FitsFile}
-use Rattle.rm_catalog_typed.proofs.Fitted.{file_fits}
-use Rattle.rm_machine.specs.CreateDatafile.{with_datafile}
-use Rattle.rm_machine.specs.Damage.{has_block}
-use Rattle.rm_machine.specs.Effect.{Made}
-use Rattle.rm_machine.specs.Machine.{HistoryFits, IsBorneOut, RowsAre, SoundRowsAre}
-use Rattle.rm_machine.specs.Marks.{one_further}
-use Rattle.rm_machine.specs.Sound.{IsPlaced, IsPlacedRow, IsSound}
-use Rattle.rm_machine.specs.Tracked.{AreTracked, IsTracked, tracks}
-use Rattle.rm_machine.specs.declared.state.State.{State}
-use Rattle.rm_machine.specs.State.{world, now_of, on_path, placed}
-use Rattle.rm_catalog_typed.specs.Worlds.{database_of}
-use Rattle.rm_machine.proofs.Damaged.{damaged-kept}
-use Rattle.rm_machine.proofs.Kept.{GrowsTo, kept-on, stand-same}
-use Rattle.rm_machine.proofs.Further.{catalog-further, keeps-further, sound-further}
-use Rattle.rm_machine.proofs.FirstTold.{lie-below}
-use Rattle.rm_machine_laws.proofs.DamagedRows.{but-damaged, sound-agrees}
-use Rattle.rm_machine_laws.proofs.Further.{fits-further, rows-further, same-further}
-use Rattle.rm_machine_laws.proofs.Grown.{SameHistory, true-on}
-use Rattle.rm_machine_laws.proofs.Leading.{LeadsOnBy, StaysBy}
-use Rattle.rm_machine.proofs.Places.{counted-open, placed-is}
-use Rattle.rm_machine_laws.proofs.Quiet.{quiet-on, quiet-stays}
-use Rattle.rm_machine.proofs.AddingDatafile.{HasRoom, has-room}
+use Rattle.rm_track.specs.{Bitmaps.{Bitmap, Tracked, fresh, tracked_at, with_file as with_tracked}, Told.{Tell}}
+use Rattle.rm_track.proofs.{Places.{found-beside, found-new}, Telling.{new-file-tells}}
+use Rattle.rm_catalog_typed.{specs.{Fitting.{FitsFile}, Worlds.{database_of}}, proofs.Fitted.{file_fits}}
+use Rattle.rm_machine.specs.{CreateDatafile.{with_datafile}, Damage.{has_block}, Effect.{Made}}
+use Rattle.rm_machine.specs.{Machine.{HistoryFits, IsBorneOut, RowsAre, SoundRowsAre}, Marks.{one_further}}
+use Rattle.rm_machine.specs.{Sound.{IsPlaced, IsPlacedRow, IsSound}, Tracked.{AreTracked, IsTracked, tracks}}
+use Rattle.rm_machine.{specs.{State.{world, now_of, on_path, placed}, declared.state.State.{State}}, proofs.Damaged.{damaged-kept}}
+use Rattle.rm_machine.proofs.{Kept.{GrowsTo, kept-on, stand-same}, Further.{catalog-further, keeps-further, sound-further}}
+use Rattle.rm_machine.proofs.{FirstTold.{lie-below}, Places.{counted-open, placed-is}, AddingDatafile.{HasRoom, has-room}}
 use Rattle.rm_machine.proofs.AddingDatafile as shared
+use Rattle.rm_machine_laws.proofs.{DamagedRows.{but-damaged, sound-agrees}, Further.{fits-further, rows-further, same-further}}
+use Rattle.rm_machine_laws.proofs.{Grown.{SameHistory, true-on}, Leading.{LeadsOnBy, StaysBy}, Quiet.{quiet-on, quiet-stays}}
 
 -- A new datafile
 

@@ -1,47 +1,23 @@
 -- What is at hand agrees with the history, where digests tell.
 use Rattle.std.proofs.Common.{◌≡◌, ◌≢◌, ◌+◌, ◌-◌, ◌∙◌, inl, inr, ℕ, suc, List, [], Option, Some, None, refl, ap, sym, subst, arith, All, Contains, slice_index_or}
 use Rattle.std.proofs.lemmas.List.Elements.{All-contains}
-use Rattle.rm_base.specs.Store.{Held}
-use Rattle.rm_base.specs.declared.block.Change.{Change}
-use Rattle.rm_base.specs.declared.kinds.Kind.{Kind}
-use Rattle.rm_base.specs.declared.kinds.Kind.TheVariants.{Full, Level0, Level1, Place}
-use Rattle.rm_base.proofs.Lists.{map_from}
-use Rattle.rm_base.proofs.Members.{none-in}
-use Rattle.rm_base.proofs.Slots.{index-get}
-use Rattle.rm_catalog.specs.declared.record.LogEntry.{LogEntry}
-use Rattle.rm_catalog.specs.declared.record.PieceEntry.{PieceEntry}
-use Rattle.rm_catalog.specs.declared.record.SetEntry.{SetEntry}
-use Rattle.rm_evidence.specs.declared.evidence.Evidence.{Evidence}
-use Rattle.rm_evidence.specs.Available.{HasLogObject, HasPieceObject, HasSetObject}
-use Rattle.rm_evidence.specs.Gathered.{IsGathered}
-use Rattle.rm_evidence.specs.Known.{known_of}
-use Rattle.rm_evidence.specs.Seen.{IsSeen}
+use Rattle.rm_base.specs.{Store.{Held}, declared.{block.Change.{Change}, kinds.Kind.{Kind, TheVariants.{Full, Level0, Level1, Place}}}}
+use Rattle.rm_base.proofs.{Lists.{map_from}, Members.{none-in}, Slots.{index-get}}
+use Rattle.rm_catalog.specs.declared.record.{LogEntry.{LogEntry}, PieceEntry.{PieceEntry}, SetEntry.{SetEntry}}
+use Rattle.rm_evidence.specs.{Available.{HasLogObject, HasPieceObject, HasSetObject}, Gathered.{IsGathered}, Known.{known_of}}
+use Rattle.rm_evidence.specs.{Seen.{IsSeen}, Names.{log_name, piece_name, set_name}, declared.evidence.Evidence.{Evidence}}
+use Rattle.rm_history.specs.{Evidence as known, Agrees.{BaseAgrees, Level1Agrees, LogAgrees}, History.{IsHistory}}
 use Rattle.rm_history.specs.declared.world.World.{World}
-use Rattle.rm_history.specs.Agrees.{BaseAgrees, Level1Agrees, LogAgrees}
-use Rattle.rm_history.specs.Evidence as known
-use Rattle.rm_history.specs.History.{IsHistory}
-use Rattle.rm_evidence.specs.Names.{log_name, piece_name, set_name}
-use Rattle.rm_piece.specs.declared.piece.Piece.{Piece}
-use Rattle.rm_piece.specs.Artefacts.{base_of, level1_of}
-use Rattle.rm_piece.specs.declared.set.Set.{Set}
-use Rattle.rm_piece.specs.declared.set.SetFile.{SetFile}
-use Rattle.rm_piece.specs.SetSpelling.{set_spelling}
-use Rattle.rm_piece.specs.Spelling as piece_format
-use Rattle.rm_piece.proofs.Fitting.{spelling_same as piece_same}
+use Rattle.rm_piece.specs.{Spelling as piece_format, Artefacts.{base_of, level1_of}, SetSpelling.{set_spelling}}
+use Rattle.rm_piece.{specs.declared.{piece.Piece.{Piece}, set.{Set.{Set}, SetFile.{SetFile}}}, proofs.Fitting.{spelling_same as piece_same}}
 use Rattle.rm_piece.proofs.SetFitting.{spelling_same as set_same}
-use Rattle.rm_redo.specs.declared.log_file.LogFile.{LogFile}
-use Rattle.rm_redo.specs.LogFile.{log_of}
-use Rattle.rm_redo.specs.LogFormat as log_format
+use Rattle.rm_redo.specs.{LogFormat as log_format, LogFile.{log_of}, declared.log_file.LogFile.{LogFile}}
 use Rattle.rm_redo.proofs.LogFitting.{spelling_same as log_same}
-use Rattle.rm_machine.specs.Damage.{has_file}
-use Rattle.rm_machine.specs.Effect.{Made, a_log, a_piece, a_set}
+use Rattle.rm_machine.specs.{Damage.{has_file}, Effect.{Made, a_log, a_piece, a_set}}
 use Rattle.rm_machine.specs.Machine.{DigestsTell, DigestsTellFor, IsBorneOut, IsSoundBy, IsTrueArtefact, Machine, PieceAgrees, TellBy}
-use Rattle.rm_machine.specs.Recovery.{IsAtHand, in_place}
-use Rattle.rm_machine.specs.declared.state.State.{State}
-use Rattle.rm_machine.specs.State.{ledger, world}
-use Rattle.rm_catalog_typed.specs.TypedCatalog.{records_of}
-use Rattle.rm_catalog_typed.specs.Worlds.{database_of}
+use Rattle.rm_machine.specs.{Recovery.{IsAtHand, in_place}, State.{ledger, world}, declared.state.State.{State}}
 use Rattle.rm_machine.proofs.Places.{placed-is}
+use Rattle.rm_catalog_typed.specs.{TypedCatalog.{records_of}, Worlds.{database_of}}
 use Rattle.rm_machine_laws.proofs.AtHand.{BackupFrom, BaseFrom, Level1From, LogFrom, base-from, from_copy, from_log, from_online, from_piece, from_place, from_set, level1-from, log-from}
 
 -- a piece that is no level 1 agrees as a copy

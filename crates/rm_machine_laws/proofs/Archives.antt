@@ -1,21 +1,13 @@
 -- Archiving threads one after another.
 use Rattle.std.proofs.Common.{◌≡◌, ◌<◌, ◌+◌, ◌++◌, ℕ, zero, suc, List, [], Bool, true, false, cond, refl, sym, subst, arith}
 use Rattle.std.proofs.lemmas.List.{append-nil, append_assoc}
-use Rattle.rm_base.specs.Store.{Held}
-use Rattle.rm_base.specs.declared.block.Change.{Change}
+use Rattle.rm_base.specs.{Store.{Held}, declared.block.Change.{Change}}
 use Rattle.rm_commit.specs.Names.{HasPuts}
-use Rattle.rm_machine.specs.Archive.{after_thread, after_threads, made_by, made_from, puts_by, puts_from}
-use Rattle.rm_machine.specs.Effect.{Made}
-use Rattle.rm_machine.specs.Machine.{IsBorneOut}
-use Rattle.rm_machine.specs.declared.state.State.{State}
-use Rattle.rm_machine.specs.State.{ledger, online}
-use Rattle.rm_machine.specs.SwitchLogfile.{archived, is_due, with_archived}
-use Rattle.rm_machine.proofs.Kept.{stand-same}
-use Rattle.rm_machine.proofs.Later.{borne-beside}
-use Rattle.rm_machine.proofs.Switching.{CanArchive}
-use Rattle.rm_machine_laws.proofs.Switching.{switched-by}
-use Rattle.rm_machine_laws.proofs.NewObjects.{puts-rest, with_puts}
+use Rattle.rm_machine.specs.{Archive.{after_thread, after_threads, made_by, made_from, puts_by, puts_from}, Effect.{Made}}
+use Rattle.rm_machine.specs.{Machine.{IsBorneOut}, State.{ledger, online}, SwitchLogfile.{archived, is_due, with_archived}}
+use Rattle.rm_machine.{specs.declared.state.State.{State}, proofs.{Kept.{stand-same}, Later.{borne-beside}, Switching.{CanArchive}}}
 use Rattle.rm_machine.proofs.Archives.{HasRoom, can-thread, next-room}
+use Rattle.rm_machine_laws.proofs.{Switching.{switched-by}, NewObjects.{puts-rest, with_puts}}
 
 -- What stands after it
 

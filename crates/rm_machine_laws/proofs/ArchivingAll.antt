@@ -1,15 +1,10 @@
 -- ARCHIVE LOG CURRENT leads on.
 use Rattle.std.proofs.Common.{◌≡◌, ◌∙◌, None, true, refl, arith}
-use Rattle.rm_base.specs.declared.refusal.Refusal.TheVariants.{Rm04}
-use Rattle.rm_machine.specs.Archive.{after_all, archive_all_refusal, archiving, archiving_refusal}
-use Rattle.rm_machine.specs.declared.state.State.{State}
-use Rattle.rm_machine.specs.Sound.{IsSound}
+use Rattle.rm_base.{specs.declared.refusal.Refusal.TheVariants.{Rm04}, proofs.Conditions.{only-where}}
+use Rattle.rm_machine.specs.{Archive.{after_all, archive_all_refusal, archiving, archiving_refusal}, Sound.{IsSound}}
+use Rattle.rm_machine.{specs.declared.state.State.{State}, proofs.Archives.{HasRoom, room-accepted, threads-sound}}
 use Rattle.rm_lang_statement.specs.declared.command.Command.TheVariants.{ArchiveLogCurrent}
-use Rattle.rm_machine.proofs.Archives.{HasRoom, room-accepted, threads-sound}
-use Rattle.rm_machine_laws.proofs.Archives.{threads-stand}
-use Rattle.rm_base.proofs.Conditions.{only-where}
-use Rattle.rm_machine_laws.proofs.Leading.{LeadsOnBy, StaysBy}
-use Rattle.rm_machine_laws.proofs.Quiet.{same-stays, unchanged}
+use Rattle.rm_machine_laws.proofs.{Archives.{threads-stand}, Leading.{LeadsOnBy, StaysBy}, Quiet.{same-stays, unchanged}}
 
 pub room : (s : State) → IsSound s → archive_all_refusal s ≡ None → HasRoom s 1 4 0
 room s sound none = room-accepted s 0 sound.catalog.ledger.few (only-where s.instance.is_open (archiving_refusal s 0) (Rm04 true) none).1

@@ -1,38 +1,21 @@
 -- What the state does not refuse has the ids of a save left, since these are asked for.
-use Rattle.std.proofs.Common.{◌≡◌, ◌+◌, ◌≤◌, ℕ, Option, Some, None, Bool, true, false, cond, refl, arith, rules}
 use Rattle.std.specs.Option.{option_and_then, option_map_or}
-use Rattle.std.proofs.lemmas.Bool.{le-ltb}
-use Rattle.rm_base.specs.declared.refusal.Refusal.{Refusal}
-use Rattle.rm_base.specs.declared.refusal.Refusal.TheVariants.{Rm03, Rm05, Rm09}
-use Rattle.rm_base.specs.declared.refusal.Absent.TheVariants.{File}
+use Rattle.std.proofs.{Common.{◌≡◌, ◌+◌, ◌≤◌, ℕ, Option, Some, None, Bool, true, false, cond, refl, arith, rules}, lemmas.Bool.{le-ltb}}
+use Rattle.rm_base.specs.declared.refusal.{Refusal.{Refusal, TheVariants.{Rm03, Rm05, Rm09}}, Absent.TheVariants.{File}}
 use Rattle.rm_base.proofs.Conditions.{only-where, unless}
 use Rattle.rm_lang_statement.specs.declared.command.Command.{Command}
 use Rattle.rm_lang_statement.specs.declared.command.Command.TheVariants.{ArchiveLogCurrent, Backup, BackupFrom, ChangeBackup, Corrupt, CreateDatabase, CreateDatafile, Cut, Damage, DeleteBackup, DeleteExpired, LoseDatafile, LoseLog, Mount, OpenPlain, OpenResetlogs, Parallelism, Remove, Rename, ResetDatabase, Retention, SwitchLogfile, SwitchThread, Tracking, Write}
-use Rattle.rm_lang_statement.specs.declared.command.RepairForm.{RepairForm}
-use Rattle.rm_lang_statement.specs.declared.command.Until.{Until}
-use Rattle.rm_lang_statement.specs.declared.command.WriteForm.{WriteForm}
-use Rattle.rm_machine.specs.Asked.{asked}
-use Rattle.rm_machine.specs.BackupRefusal.{absent_of, lost_of}
+use Rattle.rm_lang_statement.specs.declared.command.{RepairForm.{RepairForm}, Until.{Until}, WriteForm.{WriteForm}}
+use Rattle.rm_machine.specs.{Asked.{asked}, BackupRefusal.{absent_of, lost_of}}
 use Rattle.rm_machine.specs.BlockRecoverRefusal.{absent_named, lost_named, repair_refusal, repair_room_refusal}
-use Rattle.rm_machine.specs.Corrupt.{corrupt_block_refusal, corrupt_refusal}
-use Rattle.rm_machine.specs.Marks.{ids_refusal, lacks_ids}
-use Rattle.rm_machine.specs.Nature.{nature_of}
-use Rattle.rm_machine.specs.Recover.{recover_refusal, target_refusal}
-use Rattle.rm_machine.specs.Restore.{place_refusal, restore_refusal}
-use Rattle.rm_machine.specs.Sound.{IsSound}
-use Rattle.rm_machine.specs.State.{current_of, is_no_thread, ledger, on_path}
-use Rattle.rm_machine.specs.Step.{refusal_of}
+use Rattle.rm_machine.specs.{Corrupt.{corrupt_block_refusal, corrupt_refusal}, Marks.{ids_refusal, lacks_ids}, Nature.{nature_of}}
+use Rattle.rm_machine.specs.{Recover.{recover_refusal, target_refusal}, Restore.{place_refusal, restore_refusal}, Sound.{IsSound}}
+use Rattle.rm_machine.specs.{State.{current_of, is_no_thread, ledger, on_path}, Step.{refusal_of}}
 use Rattle.rm_machine.specs.SwitchLogfile.{archive_refusal, is_due, switch_refusal}
 use Rattle.rm_machine.specs.Until.{nowhere_refusal, or_else, refusal_at, target_of, thread_refusal, until_refusal}
-use Rattle.rm_machine.specs.Write.{block_refusal, write_refusal}
-use Rattle.rm_machine.specs.declared.nature.Nature.TheVariants.{Changes, Mishap}
-use Rattle.rm_machine.specs.declared.state.State.{State}
-use Rattle.rm_machine.proofs.BackupAccepted.{can-back_up}
-use Rattle.rm_machine.proofs.Branching.{can-reset}
-use Rattle.rm_machine.proofs.Disabling.{accepted}
-use Rattle.rm_machine.proofs.Rolling.{can-roll}
-use Rattle.rm_machine.proofs.Switching.{not-above}
-use Rattle.rm_machine.proofs.Untils.{second-none}
+use Rattle.rm_machine.specs.{Write.{block_refusal, write_refusal}, declared.nature.Nature.TheVariants.{Changes, Mishap}}
+use Rattle.rm_machine.{specs.declared.state.State.{State}, proofs.{BackupAccepted.{can-back_up}, Branching.{can-reset}}}
+use Rattle.rm_machine.proofs.{Disabling.{accepted}, Rolling.{can-roll}, Switching.{not-above}, Untils.{second-none}}
 use Rattle.rm_machine_laws.proofs.ArchivingAll.{room}
 
 -- what is not refused so has them

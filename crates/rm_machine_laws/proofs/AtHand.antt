@@ -1,36 +1,20 @@
 -- Where what is at hand comes from: each artefact is in place, or the one of a record.
-use Rattle.std.proofs.Common.{◌≡◌, ◌≢◌, ◌∙◌, ◌+◌, inl, inr, ℕ, List, Some, false, ap, subst, arith, map, Contains, slice_get}
 use Rattle.std.specs.List.{filter_map}
+use Rattle.std.proofs.Common.{◌≡◌, ◌≢◌, ◌∙◌, ◌+◌, inl, inr, ℕ, List, Some, false, ap, subst, arith, map, Contains, slice_get}
 use Rattle.std.proofs.lemmas.List.Elements.{Contains-append_cases}
-use Rattle.rm_base.specs.Store.{Held}
-use Rattle.rm_base.specs.declared.kinds.Kind.TheVariants.{Level1}
-use Rattle.rm_base.proofs.Lists.{map_from}
+use Rattle.rm_base.{specs.{Store.{Held}, declared.kinds.Kind.TheVariants.{Level1}}, proofs.Lists.{map_from}}
 use Rattle.rm_blocks.specs.File.{File}
-use Rattle.rm_catalog.specs.declared.record.LogEntry.{LogEntry}
-use Rattle.rm_catalog.specs.declared.record.PieceEntry.{PieceEntry}
-use Rattle.rm_catalog.specs.declared.record.SetEntry.{SetEntry}
-use Rattle.rm_evidence.specs.declared.evidence.Evidence.{Evidence}
-use Rattle.rm_evidence.specs.Available.{HasLogObject, HasPieceObject, HasSetObject}
-use Rattle.rm_evidence.specs.Database.{Database, database_in}
+use Rattle.rm_catalog.specs.declared.record.{LogEntry.{LogEntry}, PieceEntry.{PieceEntry}, SetEntry.{SetEntry}}
+use Rattle.rm_evidence.specs.{Available.{HasLogObject, HasPieceObject, HasSetObject}, Database.{Database, database_in}}
 use Rattle.rm_evidence.specs.Gathered.{IsBaseOf, IsLevel1Of, IsLogOf, IsPieceAmong, placed, placed_piece}
-use Rattle.rm_piece.specs.declared.piece.Piece.{Piece}
-use Rattle.rm_piece.specs.declared.set.Set.{Set}
-use Rattle.rm_piece.specs.declared.set.SetFile.{SetFile}
-use Rattle.rm_redo.specs.declared.log_file.LogFile.{LogFile}
-use Rattle.rm_redo.specs.Online.{IsThread}
-use Rattle.rm_catalog_typed.specs.TypedCatalog.{records_of}
-use Rattle.rm_catalog_typed.proofs.Members.{log-in, piece-in, set-in}
-use Rattle.rm_machine.specs.Damage.{has_file, undamaged}
-use Rattle.rm_machine.specs.Recovery.{IsAtHand, in_place, online_logs}
-use Rattle.rm_machine.specs.Sound.{IsSound}
-use Rattle.rm_machine.specs.declared.state.State.{State}
-use Rattle.rm_machine.specs.State.{ledger, counted, online, is_lost}
-use Rattle.rm_catalog_typed.specs.Worlds.{database_of}
+use Rattle.rm_evidence.specs.declared.evidence.Evidence.{Evidence}
+use Rattle.rm_piece.specs.declared.{piece.Piece.{Piece}, set.{Set.{Set}, SetFile.{SetFile}}}
+use Rattle.rm_redo.specs.{Online.{IsThread}, declared.log_file.LogFile.{LogFile}}
+use Rattle.rm_catalog_typed.{specs.{TypedCatalog.{records_of}, Worlds.{database_of}}, proofs.Members.{log-in, piece-in, set-in}}
 use Rattle.rm_catalog_typed.proofs.Records.{base-told}
-use Rattle.rm_machine.proofs.Undamaged.{undamaged-at}
-use Rattle.rm_machine.proofs.Standing.{present-in}
-use Rattle.rm_machine.proofs.AtHand.{online-in}
-use Rattle.rm_machine.proofs.Threads.{thread-in}
+use Rattle.rm_machine.specs.{Damage.{has_file, undamaged}, Recovery.{IsAtHand, in_place, online_logs}, Sound.{IsSound}}
+use Rattle.rm_machine.{specs.{State.{ledger, counted, online, is_lost}, declared.state.State.{State}}, proofs.Undamaged.{undamaged-at}}
+use Rattle.rm_machine.proofs.{Standing.{present-in}, AtHand.{online-in}, Threads.{thread-in}}
 
 -- a log at hand is an online one that is not lost, or the log of a record
 pub data LogFrom (s : State) (held : Held) : LogFile → Type 0 where

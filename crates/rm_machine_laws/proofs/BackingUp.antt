@@ -1,63 +1,36 @@
 -- BACKUP leads on: the mark, the events, and then the pieces or sets.
+use Rattle.std.specs.{Prelude.{IsSomeAnd}, List.{list_any}, Option.{option_map}}
 use Rattle.std.proofs.Common.{◌≡◌, ◌⊎◌, ◌<◌, ◌≤◌, ◌+◌, ◌∙◌, ◌++◌, ◌==◌, inl, inr, ℕ, List, Option, Some, None, Ok, false, refl, sym, subst, arith, get_or, length, map, slice_get, All, Contains, IfSome}
-use Rattle.std.specs.Prelude.{IsSomeAnd}
-use Rattle.std.proofs.lemmas.List.Elements.{Contains-get_or}
-use Rattle.std.specs.List.{list_any}
-use Rattle.std.specs.Option.{option_map}
-use Rattle.std.proofs.lemmas.Bool.{cases_Bool, eq-eqb, eqb-true}
-use Rattle.rm_base.specs.Store.{Held}
-use Rattle.rm_base.specs.declared.block.BlockId.{BlockId}
-use Rattle.rm_base.specs.declared.refusal.Refusal.TheVariants.{Rm17}
-use Rattle.rm_base.proofs.Lists.{any_fails, any_to, find_none}
-use Rattle.rm_base.specs.declared.block.Change.{Change}
-use Rattle.rm_base.specs.declared.block.Row.{Row}
+use Rattle.std.proofs.lemmas.{List.Elements.{Contains-get_or}, Bool.{cases_Bool, eq-eqb, eqb-true}}
+use Rattle.rm_base.specs.{Store.{Held}, declared.{block.{BlockId.{BlockId}, Change.{Change}}, refusal.Refusal.TheVariants.{Rm17}}}
+use Rattle.rm_base.{specs.declared.block.Row.{Row}, proofs.Lists.{any_fails, any_to, find_none}}
 use Rattle.rm_catalog.specs.Objects.{IsTag}
-use Rattle.rm_channel.specs.Jobs.{AreRows, deeds_of}
-use Rattle.rm_channel.specs.Made.{AreThese, deed}
+use Rattle.rm_channel.specs.{Jobs.{AreRows, deeds_of}, Made.{AreThese, deed}}
 use Rattle.rm_evidence.specs.Objects.{IsAsCreated}
-use Rattle.rm_history.specs.declared.world.Datafile.{Datafile}
-use Rattle.rm_history.specs.Agrees.{IsBelow, IsRow}
-use Rattle.rm_history.specs.World.{blocks_of}
+use Rattle.rm_history.specs.{Agrees.{IsBelow, IsRow}, World.{blocks_of}, declared.world.Datafile.{Datafile}}
 use Rattle.rm_piece.specs.Level1s.{IsRead}
 use Rattle.rm_track.specs.Told.{Tell}
 use Rattle.rm_commit.specs.Names.{HasPuts}
 use Rattle.rm_catalog_typed.specs.Ledger.{ledger_records}
-use Rattle.rm_live.specs.declared.history.Event.{Event}
-use Rattle.rm_live.specs.History.{IsLegal}
-use Rattle.rm_lang_statement.specs.declared.command.BackupForm.{BackupForm}
-use Rattle.rm_lang_statement.specs.declared.command.WriteForm.{WriteForm}
-use Rattle.rm_machine.specs.MadePieces.{Copied, piece_by}
-use Rattle.rm_machine.specs.MadeSets.{InSet, member_by}
-use Rattle.rm_machine.specs.Backup.{AreJobs, taken}
-use Rattle.rm_machine.specs.Effect.{Effect, Made, a_piece}
-use Rattle.rm_machine.specs.Machine.{IsBorneOut, IsTrueArtefact}
-use Rattle.rm_machine.specs.Sound.{IsSound}
-use Rattle.rm_machine.specs.declared.job.Job.{Job}
-use Rattle.rm_machine.specs.declared.state.State.{State}
-use Rattle.rm_machine.specs.State.{current_of, ledger, now_of, world}
-use Rattle.rm_machine.proofs.Tags.{tag-fits}
-use Rattle.rm_machine.specs.Asked.{blocks_read, span_of, writers_of, writes_in}
+use Rattle.rm_live.specs.{History.{IsLegal}, declared.history.Event.{Event}}
+use Rattle.rm_lang_statement.specs.declared.command.{BackupForm.{BackupForm}, WriteForm.{WriteForm}, Command.TheVariants.{Backup}}
+use Rattle.rm_machine.specs.{MadePieces.{Copied, piece_by}, MadeSets.{InSet, member_by}, Backup.{AreJobs, taken}}
+use Rattle.rm_machine.specs.{Effect.{Effect, Made, a_piece}, Machine.{IsBorneOut, IsTrueArtefact}, Sound.{IsSound}}
+use Rattle.rm_machine.specs.{State.{current_of, ledger, now_of, world}, Asked.{blocks_read, span_of, writers_of, writes_in}}
 use Rattle.rm_machine.specs.Events.{changes_of, opening}
 use Rattle.rm_machine.specs.MadeObjects.{CanRecord, Packed, after_objects, objects_made, objects_put, packed}
 use Rattle.rm_machine.specs.BackupOutcome.{at_end, begun, effect_of}
-use Rattle.rm_machine.specs.BackupRefusal.{damage_refusal, damaged_taken, damaged_write, mark_count}
-use Rattle.rm_machine.specs.Damage.{has_block, has_file}
-use Rattle.rm_machine.proofs.BackupAccepted.{CanBackUp, can-back_up, unless-some}
-use Rattle.rm_machine.proofs.LosingFits.{no-block}
+use Rattle.rm_machine.specs.{BackupRefusal.{damage_refusal, damaged_taken, damaged_write, mark_count}, Damage.{has_block, has_file}}
+use Rattle.rm_machine.{specs.declared.{job.Job.{Job}, state.State.{State}}, proofs.Tags.{tag-fits}}
+use Rattle.rm_machine.proofs.{BackupAccepted.{CanBackUp, can-back_up, unless-some}, LosingFits.{no-block}}
 use Rattle.rm_machine.proofs.Copies.{IsReady, all-copied, all-in_sets, all-packed, ready-member_true, ready-true}
-use Rattle.rm_machine.proofs.BackupMarks.{borne-marked, marked-same}
-use Rattle.rm_machine.proofs.MembersRead.{creation-by}
-use Rattle.rm_machine.proofs.PiecesRead.{AreOthers, IsCheckpoint, blocks-by}
-use Rattle.rm_machine_laws.proofs.Recording.{IsTrueMember, IsTrueObject, objects-borne, objects-saved, objects-sound}
-use Rattle.rm_machine.proofs.Deeds.{WereRead, are-read}
-use Rattle.rm_machine.proofs.Walk.{AreAsked, CanGoOn, HasWalked, events-same}
-use Rattle.rm_machine_laws.proofs.Walk.{below-events, borne-events, true-events}
-use Rattle.rm_machine_laws.proofs.Wanted.{below-begun, is-taken, tell-begun}
-use Rattle.rm_machine_laws.proofs.Leading.{LeadsOnBy, StaysBy}
-use Rattle.rm_lang_statement.specs.declared.command.Command.TheVariants.{Backup}
-use Rattle.rm_machine_laws.proofs.Quiet.{landed, same-stays}
+use Rattle.rm_machine.proofs.{BackupMarks.{borne-marked, marked-same}, MembersRead.{creation-by}}
+use Rattle.rm_machine.proofs.{PiecesRead.{AreOthers, IsCheckpoint, blocks-by}, Deeds.{WereRead, are-read}}
+use Rattle.rm_machine.proofs.{BackingUp as shared, Walk.{AreAsked, CanGoOn, HasWalked, events-same}}
 use Rattle.rm_machine.proofs.BackingUp.{IsNoCandidate, IsReadyToRead, jobs-ready, of-each, per_set-some}
-use Rattle.rm_machine.proofs.BackingUp as shared
+use Rattle.rm_machine_laws.proofs.Recording.{IsTrueMember, IsTrueObject, objects-borne, objects-saved, objects-sound}
+use Rattle.rm_machine_laws.proofs.{Walk.{below-events, borne-events, true-events}, Wanted.{below-begun, is-taken, tell-begun}}
+use Rattle.rm_machine_laws.proofs.{Leading.{LeadsOnBy, StaysBy}, Quiet.{landed, same-stays}}
 
 -- of a datafile that is backed up no block is damaged
 pub taken-clean : (s : State) (b : BackupForm) → damage_refusal s b ≡ None → (f : ℕ) → Contains (taken s b) f → has_file s.instance.damaged f ≡ false

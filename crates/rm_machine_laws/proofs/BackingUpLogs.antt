@@ -1,38 +1,23 @@
 -- BACKUP ARCHIVELOG ALL leads on: backups of logs are recorded, one after another.
-use Rattle.std.proofs.Common.{◌≡◌, ◌∙◌, ◌++◌, ℕ, suc, List, [], ◌∷◌, Option, Some, None, refl, sym, subst, append_assoc, filter, length, map, All, Contains}
 use Rattle.std.specs.Option.{option_map_or}
-use Rattle.std.proofs.lemmas.List.{append-nil}
-use Rattle.std.proofs.lemmas.List.Elements.{All-head, All-tail}
-use Rattle.rm_base.specs.Store.{Held}
-use Rattle.rm_base.specs.declared.block.Change.{Change}
-use Rattle.rm_base.specs.declared.refusal.Refusal.{Refusal}
-use Rattle.rm_base.proofs.Lists.{filter_from, map_from}
-use Rattle.rm_catalog.specs.declared.record.LogEntry.{LogEntry}
-use Rattle.rm_catalog.specs.declared.record.Record.TheVariants.{Log}
+use Rattle.std.proofs.Common.{◌≡◌, ◌∙◌, ◌++◌, ℕ, suc, List, [], ◌∷◌, Option, Some, None, refl, sym, subst, append_assoc, filter, length, map, All, Contains}
+use Rattle.std.proofs.lemmas.List.{append-nil, Elements.{All-head, All-tail}}
+use Rattle.rm_base.{specs.{Store.{Held}, declared.{block.Change.{Change}, refusal.Refusal.{Refusal}}}, proofs.Lists.{filter_from, map_from}}
+use Rattle.rm_catalog.specs.declared.record.{LogEntry.{LogEntry}, Record.TheVariants.{Log}}
 use Rattle.rm_commit.specs.Names.{HasPuts}
-use Rattle.rm_evidence.specs.Available.{HasLogObject}
-use Rattle.rm_evidence.specs.Gathered.{IsLogOf, Lists}
+use Rattle.rm_evidence.specs.{Available.{HasLogObject}, Gathered.{IsLogOf, Lists}}
 use Rattle.rm_redo.specs.declared.log_file.LogFile.{LogFile}
 use Rattle.rm_report.specs.declared.line.Line.{Line}
-use Rattle.rm_catalog_typed.specs.Changes.{with_new_log}
-use Rattle.rm_catalog_typed.specs.TypedCatalog.{TypedCatalog}
+use Rattle.rm_catalog_typed.specs.{Changes.{with_new_log}, TypedCatalog.{TypedCatalog}}
 use Rattle.rm_lang_statement.specs.declared.command.Command.TheVariants.{BackupLogs}
 use Rattle.rm_machine.specs.BackupLogs.{archived_in, copies_of, copies_refusal, copy_entry, copy_made, copy_object, copying, with_copies}
-use Rattle.rm_machine.specs.Effect.{Effect, Made, a_log, done, refused}
-use Rattle.rm_machine.specs.Machine.{DigestsTellFor, IsBorneOut, IsTrueArtefact}
-use Rattle.rm_machine.specs.Sound.{IsSound}
-use Rattle.rm_machine.specs.declared.state.State.{State}
-use Rattle.rm_machine.specs.State.{ledger, world}
-use Rattle.rm_machine_laws.proofs.Agreeing.{log-agrees}
-use Rattle.rm_machine.proofs.Left.{HasRoom}
-use Rattle.rm_machine.proofs.Kept.{stand-same}
-use Rattle.rm_machine.proofs.Later.{borne-beside, fits-with}
-use Rattle.rm_machine_laws.proofs.Leading.{LeadsOnBy, StaysBy}
-use Rattle.rm_machine.proofs.Standing.{each-in}
-use Rattle.rm_machine_laws.proofs.Quiet.{same-stays, unchanged}
-use Rattle.rm_machine_laws.proofs.NewObjects.{borne-logged, puts-rest, with_puts}
+use Rattle.rm_machine.specs.{Effect.{Effect, Made, a_log, done, refused}, Machine.{DigestsTellFor, IsBorneOut, IsTrueArtefact}}
+use Rattle.rm_machine.{specs.{Sound.{IsSound}, State.{ledger, world}, declared.state.State.{State}}, proofs.Left.{HasRoom}}
+use Rattle.rm_machine.proofs.{Kept.{stand-same}, Later.{borne-beside, fits-with}, Standing.{each-in}}
 use Rattle.rm_machine.proofs.BackingUpLogs.{CanRecord, after_copies, can-next, can-record, room-for, room-next, with_copy}
 use Rattle.rm_machine.proofs.BackingUpLogs as shared
+use Rattle.rm_machine_laws.proofs.{Agreeing.{log-agrees}, Leading.{LeadsOnBy, StaysBy}, Quiet.{same-stays, unchanged}}
+use Rattle.rm_machine_laws.proofs.NewObjects.{borne-logged, puts-rest, with_puts}
 
 -- One log
 module _ (s : State) (a : LogFile) (n : ℕ) (sound : IsSound s) (can : CanRecord s a) (room : HasRoom s (suc n)) where

@@ -1,28 +1,16 @@
 -- What is at hand rests on objects of records alone, and on no part of a saved site.
 use Rattle.std.proofs.Common.{◌≡◌, ◌∙◌, inl, inr, ℕ, Bool, List, Option, sym, subst}
-use Rattle.rm_base.specs.Store.{Held}
-use Rattle.rm_base.specs.declared.kinds.Bad.{Bad}
-use Rattle.rm_base.specs.declared.kinds.Policy.{Policy}
-use Rattle.rm_base.specs.declared.kinds.Policy.TheVariants.{Window}
-use Rattle.rm_catalog.specs.declared.record.LogEntry.{LogEntry}
-use Rattle.rm_catalog.specs.declared.record.PieceEntry.{PieceEntry}
-use Rattle.rm_catalog.specs.declared.record.Record.{Record}
-use Rattle.rm_catalog.specs.declared.record.SetEntry.{SetEntry}
-use Rattle.rm_evidence.specs.declared.evidence.Evidence.{Evidence}
+use Rattle.rm_base.specs.{Store.{Held}, declared.kinds.{Bad.{Bad}, Policy.{Policy, TheVariants.{Window}}}}
+use Rattle.rm_catalog.specs.declared.record.{LogEntry.{LogEntry}, PieceEntry.{PieceEntry}, Record.{Record}, SetEntry.{SetEntry}}
 use Rattle.rm_evidence.specs.Available.{HasLogObject, HasPieceObject, HasSetObject, IsBad, IsSkipped, a_log, a_piece, a_set}
 use Rattle.rm_evidence.specs.Database.{Database, database_in}
 use Rattle.rm_evidence.specs.Gathered.{ById, ByIdAndFile, IsBaseOf, IsLevel1Of, IsLogOf, IsPieceAmong, ListsBy}
-use Rattle.rm_evidence.specs.Names.{log_name, piece_name, set_name}
-use Rattle.rm_evidence.specs.Objects.{IsLogObject, IsPieceObject, IsSetObject}
-use Rattle.rm_evidence.proofs.Names.{log-no-site, piece-no-site, set-no-site}
-use Rattle.rm_piece.specs.declared.piece.Piece.{Piece}
-use Rattle.rm_piece.specs.declared.set.Set.{Set}
+use Rattle.rm_evidence.specs.{Names.{log_name, piece_name, set_name}, Objects.{IsLogObject, IsPieceObject, IsSetObject}}
+use Rattle.rm_evidence.{specs.declared.evidence.Evidence.{Evidence}, proofs.Names.{log-no-site, piece-no-site, set-no-site}}
+use Rattle.rm_piece.specs.declared.{piece.Piece.{Piece}, set.Set.{Set}}
 use Rattle.rm_redo.specs.declared.log_file.LogFile.{LogFile}
 use Rattle.rm_catalog_typed.specs.TypedCatalog.{records_of}
-use Rattle.rm_machine.specs.Obsolete.{IsSafeBy}
-use Rattle.rm_machine.specs.Recovery.{IsAtHand}
-use Rattle.rm_machine.specs.declared.state.State.{State}
-use Rattle.rm_machine.proofs.Dropping.{IsNoSite}
+use Rattle.rm_machine.{specs.{Obsolete.{IsSafeBy}, Recovery.{IsAtHand}, declared.state.State.{State}}, proofs.Dropping.{IsNoSite}}
 
 -- two stores hold the same, parts of a saved site left aside
 abbrev pub SameBeside : Held → Held → Type 0

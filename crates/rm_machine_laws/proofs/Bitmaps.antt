@@ -1,16 +1,10 @@
 -- What bitmaps tell later and after switches, and what the history says of a block that they do not mark.
 use Rattle.std.proofs.Common.{◌≡◌, ◌⊎◌, ◌<◌, ◌≤◌, ◌∙◌, inl, inr, ℕ, Bool, List, [], ◌∷◌, Option, Some, None, IfSome, Contains, length, refl, sym, arith}
 use Rattle.std.proofs.lemmas.Bool.{cases_lt}
-use Rattle.rm_base.specs.declared.block.Change.{Change}
-use Rattle.rm_base.specs.declared.block.Row.{Row}
-use Rattle.rm_history.specs.declared.world.World.{World}
-use Rattle.rm_history.specs.State.{Made, Untouched, state}
-use Rattle.rm_history.specs.Tree.{HasParentsBelow, owner, reset_of}
-use Rattle.rm_history.specs.World.{creation_of}
-use Rattle.rm_history.proofs.Owners.{owner-here}
-use Rattle.rm_history.proofs.States.{concerns-parts, state-held}
-use Rattle.rm_track.specs.Bits.{IsMarked}
-use Rattle.rm_track.specs.Bitmaps.{Tracked, candidates_at, switch_at, tracked_at}
+use Rattle.rm_base.specs.declared.block.{Change.{Change}, Row.{Row}}
+use Rattle.rm_history.specs.{State.{Made, Untouched, state}, Tree.{HasParentsBelow, owner, reset_of}, World.{creation_of}}
+use Rattle.rm_history.{specs.declared.world.World.{World}, proofs.{Owners.{owner-here}, States.{concerns-parts, state-held}}}
+use Rattle.rm_track.specs.{Bits.{IsMarked}, Bitmaps.{Tracked, candidates_at, switch_at, tracked_at}}
 use Rattle.rm_track.specs.Told.{HasChange, IsChanged, LieBelow, Tell, TellChanges, starts}
 use Rattle.rm_track.proofs.Telling.{candidates-found, candidates-start, same-tells, switched-tell}
 use Rattle.rm_machine.specs.Tracked.{switch_all}

@@ -3,30 +3,17 @@ use Rattle.std.proofs.Common.{◌≡◌, ◌<◌, ◌≤◌, ◌∙◌, ℕ, Lis
 use Rattle.std.proofs.lemmas.List.Elements.{All-weaker}
 use Rattle.rm_base.specs.declared.block.Mark.{Mark}
 use Rattle.rm_blocks.specs.File.{File, standing}
-use Rattle.rm_history.specs.declared.tree.Incarnation.{Incarnation}
-use Rattle.rm_history.specs.declared.world.Datafile.{Datafile}
-use Rattle.rm_history.specs.Tree.{IsThere, end_of, with_branch}
+use Rattle.rm_history.specs.{Tree.{IsThere, end_of, with_branch}, declared.{tree.Incarnation.{Incarnation}, world.Datafile.{Datafile}}}
 use Rattle.rm_history.proofs.Branches.{IsThere-branched, end_of-branched, reset_of-branched}
-use Rattle.rm_catalog_typed.specs.LedgerFacts.{IsMark}
-use Rattle.rm_catalog_typed.specs.Ledger.{Ledger}
-use Rattle.rm_catalog_typed.specs.Changes.{with_incarnation}
-use Rattle.rm_catalog_typed.specs.Facts.{IsTypedCatalog}
-use Rattle.rm_catalog_typed.specs.Fitting.{FitsBranch, HasRoomFor}
-use Rattle.rm_catalog_typed.proofs.Fitted.{branch_fits}
-use Rattle.rm_catalog_typed.specs.Switches.{enabled_at, is_enabled_in}
+use Rattle.rm_catalog_typed.specs.{LedgerFacts.{IsMark}, Ledger.{Ledger}, Changes.{with_incarnation}, Facts.{IsTypedCatalog}}
+use Rattle.rm_catalog_typed.{specs.{Fitting.{FitsBranch, HasRoomFor}, Switches.{enabled_at, is_enabled_in}}, proofs.Fitted.{branch_fits}}
 use Rattle.rm_redo.specs.Online.{fresh_log}
-use Rattle.rm_machine.specs.OpenResetlogs.{branched_off, next_incarnation, with_branched_off}
-use Rattle.rm_machine.specs.Sound.{IsPlaced, IsPoint, IsSound}
-use Rattle.rm_machine.specs.declared.state.State.{State}
-use Rattle.rm_machine.specs.State.{ledger, world, current_of, redo_end}
-use Rattle.rm_machine.proofs.Damaged.{damaged-none}
-use Rattle.rm_machine.proofs.Tracked.{tracked-fresh}
-use Rattle.rm_machine_laws.proofs.Current.{current-kept}
-use Rattle.rm_machine_laws.proofs.FreshLogs.{fresh-found, fresh-online}
-use Rattle.rm_machine_laws.proofs.Opened.{below-point, kept-get, kept-length, placed-standing}
-use Rattle.rm_machine.proofs.Places.{counted-closed, counted-open}
-use Rattle.rm_machine.proofs.BranchesSound.{CanBranchAt}
+use Rattle.rm_machine.specs.{OpenResetlogs.{branched_off, next_incarnation, with_branched_off}, Sound.{IsPlaced, IsPoint, IsSound}}
+use Rattle.rm_machine.{specs.{State.{ledger, world, current_of, redo_end}, declared.state.State.{State}}, proofs.Damaged.{damaged-none}}
+use Rattle.rm_machine.proofs.{Tracked.{tracked-fresh}, Places.{counted-closed, counted-open}, BranchesSound.{CanBranchAt}}
 use Rattle.rm_machine.proofs.Threads.{all-where_gone, where-there}
+use Rattle.rm_machine_laws.proofs.{Current.{current-kept}, FreshLogs.{fresh-found, fresh-online}}
+use Rattle.rm_machine_laws.proofs.Opened.{below-point, kept-get, kept-length, placed-standing}
 
 -- whether the threads are enabled where the new incarnation begins
 abbrev pub enabled : State → ℕ → List Bool

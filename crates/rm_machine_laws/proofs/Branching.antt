@@ -1,40 +1,24 @@
 -- OPEN RESETLOGS leads on: logs are archived, and the tree gains an incarnation.
 use Rattle.std.proofs.Common.{◌≡◌, ◌<◌, ◌∙◌, ◌++◌, ℕ, List, Option, Some, None, true, IsSomeAnd, All, refl, sym, subst, arith, get_or}
 use Rattle.std.proofs.lemmas.List.Elements.{All-weaker, Contains-get_or}
-use Rattle.rm_base.specs.Store.{Held}
-use Rattle.rm_base.specs.declared.block.Change.{Change}
-use Rattle.rm_base.specs.declared.block.Row.{Row}
+use Rattle.rm_base.specs.{Store.{Held}, declared.block.{Change.{Change}, Row.{Row}}}
 use Rattle.rm_blocks.specs.File.{File, base_of}
 use Rattle.rm_lang_statement.specs.declared.command.Command.TheVariants.{OpenResetlogs}
-use Rattle.rm_history.specs.Agrees.{BaseAgrees, LogAgrees}
-use Rattle.rm_history.specs.State.{state}
-use Rattle.rm_history.specs.Tree.{HasParentsBelow, end_of}
+use Rattle.rm_history.specs.{Agrees.{BaseAgrees, LogAgrees}, State.{state}, Tree.{HasParentsBelow, end_of}}
 use Rattle.rm_history.proofs.Branches.{end_of-with_branch}
 use Rattle.rm_history.proofs.Worlds.{BaseAgrees-with_branch, IsHistory-with_branch, Level1Agrees-with_branch, state-branched}
 use Rattle.rm_catalog_typed.proofs.Trees.{keeps_branch, parents_below}
-use Rattle.rm_redo.specs.LogFile.{log_of}
-use Rattle.rm_redo.specs.Online.{IsThread}
+use Rattle.rm_redo.specs.{LogFile.{log_of}, Online.{IsThread}}
 use Rattle.rm_report.specs.declared.line.Line.{Line}
-use Rattle.rm_machine.specs.Archive.{after_all, archiving}
-use Rattle.rm_machine.specs.Effect.{Effect, Made, done}
-use Rattle.rm_machine.specs.Machine.{HistoryFits, IsBorneOut, RowsAre}
-use Rattle.rm_machine.specs.OpenResetlogs.{branched_off, resetlogs_lines}
-use Rattle.rm_machine.specs.Sound.{IsSound}
-use Rattle.rm_machine.specs.declared.state.State.{State}
-use Rattle.rm_machine.specs.State.{current_of, now_of, online, placed, world}
-use Rattle.rm_machine_laws.proofs.Archives.{threads-stand}
-use Rattle.rm_machine.proofs.BranchesSound.{CanBranchAt}
-use Rattle.rm_machine.proofs.FirstTold.{tell-first}
-use Rattle.rm_machine_laws.proofs.BranchesSound.{enabled, end-branched, sound-branched}
-use Rattle.rm_machine_laws.proofs.DamagedRows.{but-damaged}
-use Rattle.rm_machine_laws.proofs.FreshLogs.{fresh-empty, fresh-first}
-use Rattle.rm_machine_laws.proofs.Grown.{SameHistory, true-on}
-use Rattle.rm_machine_laws.proofs.Leading.{LeadsOnBy, StaysBy}
-use Rattle.rm_machine_laws.proofs.Opened.{kept-rows, rows-agree}
-use Rattle.rm_machine.proofs.Places.{counted-open}
-use Rattle.rm_machine_laws.proofs.Switching.{empty-agrees}
-use Rattle.rm_machine_laws.proofs.Quiet.{same-stays, unchanged}
+use Rattle.rm_machine.specs.{Archive.{after_all, archiving}, Effect.{Effect, Made, done}, Machine.{HistoryFits, IsBorneOut, RowsAre}}
+use Rattle.rm_machine.specs.{OpenResetlogs.{branched_off, resetlogs_lines}, Sound.{IsSound}}
+use Rattle.rm_machine.specs.{State.{current_of, now_of, online, placed, world}, declared.state.State.{State}}
+use Rattle.rm_machine.proofs.{BranchesSound.{CanBranchAt}, FirstTold.{tell-first}, Places.{counted-open}}
 use Rattle.rm_machine.proofs.Branching.{after-archiving, can-after, can-reset}
+use Rattle.rm_machine_laws.proofs.{Archives.{threads-stand}, BranchesSound.{enabled, end-branched, sound-branched}}
+use Rattle.rm_machine_laws.proofs.{DamagedRows.{but-damaged}, FreshLogs.{fresh-empty, fresh-first}, Grown.{SameHistory, true-on}}
+use Rattle.rm_machine_laws.proofs.{Leading.{LeadsOnBy, StaysBy}, Opened.{kept-rows, rows-agree}, Switching.{empty-agrees}}
+use Rattle.rm_machine_laws.proofs.Quiet.{same-stays, unchanged}
 
 module _ (s : State) (at : ℕ) (h : List Change) (sound : IsSound s) (keeps : HistoryFits s h) (can : CanBranchAt s at) where
   abbrev i : ℕ

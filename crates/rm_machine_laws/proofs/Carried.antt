@@ -1,32 +1,17 @@
 -- What is handed out and carried out is a step.
-use Rattle.std.proofs.Common.{◌≡◌, ◌∙◌, ℕ, List, Option, Some, None, refl, ap, sym, subst}
-use Rattle.std.specs.Option.{option_map}
-use Rattle.rm_base.specs.Store.{Held}
-use Rattle.rm_base.specs.declared.refusal.Refusal.{Refusal}
-use Rattle.rm_catalog.specs.declared.record.Record.{Record}
-use Rattle.rm_catalog.specs.Edits.{after_edits}
-use Rattle.rm_commit.specs.declared.commit.Commit.{Commit}
-use Rattle.rm_commit.specs.Carrying.{AreMoved, Carried}
-use Rattle.rm_commit.specs.Names.{HasPuts, HasRemoves}
+use Rattle.std.{specs.Option.{option_map}, proofs.Common.{◌≡◌, ◌∙◌, ℕ, List, Option, Some, None, refl, ap, sym, subst}}
+use Rattle.rm_base.specs.{Store.{Held}, declared.refusal.Refusal.{Refusal}}
+use Rattle.rm_catalog.specs.{Edits.{after_edits}, declared.record.Record.{Record}}
+use Rattle.rm_commit.specs.{Carrying.{AreMoved, Carried}, Names.{HasPuts, HasRemoves}, declared.commit.Commit.{Commit}}
 use Rattle.rm_commit.proofs.Told.{both-told}
-use Rattle.rm_lang_statement.specs.declared.command.Command.{Command}
-use Rattle.rm_lang_statement.specs.declared.command.Command.TheVariants.{CreateDatabase}
-use Rattle.rm_report.specs.Reply.{refused_by, said}
-use Rattle.rm_report.specs.declared.line.Line.{Line}
-use Rattle.rm_report.specs.declared.line.Reply.{Reply}
-use Rattle.rm_machine.specs.Effect.{Effect, LeavesObjects, Outcome, done, refused, told}
-use Rattle.rm_machine.specs.Honest.{IsHonest}
-use Rattle.rm_machine.specs.Laws.{LeadsOn, StaysSound, TellsOn}
-use Rattle.rm_machine.specs.Machine.{IsBorneOut, IsSoundBy, IsSoundMachine, Machine}
-use Rattle.rm_machine.specs.Rest.{HaveParts}
+use Rattle.rm_lang_statement.specs.declared.command.Command.{Command, TheVariants.{CreateDatabase}}
+use Rattle.rm_report.specs.{Reply.{refused_by, said}, declared.line.{Line.{Line}, Reply.{Reply}}}
+use Rattle.rm_machine.specs.{Effect.{Effect, LeavesObjects, Outcome, done, refused, told}, Honest.{IsHonest}}
+use Rattle.rm_machine.specs.{Laws.{LeadsOn, StaysSound, TellsOn}, Machine.{IsBorneOut, IsSoundBy, IsSoundMachine, Machine}}
+use Rattle.rm_machine.specs.{Rest.{HaveParts}, State.{at_moment}, Step.{IsOutcomeWithout, IsStatement, Step, StepBy, StepIn, and_drops}}
 use Rattle.rm_machine.specs.declared.state.State.{State}
-use Rattle.rm_machine.specs.State.{at_moment}
-use Rattle.rm_machine.specs.Step.{IsOutcomeWithout, IsStatement, Step, StepBy, StepIn, and_drops}
-use Rattle.rm_machine_laws.specs.Carries.{IsHanded, IsOutcomeIn}
-use Rattle.rm_machine_laws.specs.Holds.{Holds, records, records_in, saved_in}
-use Rattle.rm_machine_laws.specs.Moments.{IsMomentIn}
-use Rattle.rm_machine_laws.specs.Steps.{StepsAt}
-use Rattle.rm_machine_laws.proofs.Founding.{founded-unsaved, without-leads}
+use Rattle.rm_machine_laws.specs.{Carries.{IsHanded, IsOutcomeIn}, Holds.{Holds, records, records_in, saved_in}, Moments.{IsMomentIn}}
+use Rattle.rm_machine_laws.{specs.Steps.{StepsAt}, proofs.Founding.{founded-unsaved, without-leads}}
 
 -- the database on which a statement acts at this moment, if there is one
 abbrev pub acts_on : Option State → ℕ → Option State

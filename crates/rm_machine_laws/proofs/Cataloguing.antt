@@ -1,52 +1,28 @@
 -- CATALOG: where what stands there was recorded before, by a finished statement, it has a record again.
+use Rattle.std.specs.{Prelude.{MatchOption}, Option.{option_map_or}}
 use Rattle.std.proofs.Common.{◌≡◌, ◌≢◌, ◌≤◌, ◌∙◌, ◌++◌, ◌⊎◌, ◌-◌, inl, inr, ℕ, zero, suc, List, [], ◌∷◌, Option, Some, None, Bool, true, false, cond, codes, refl, ap, sym, subst, arith, get_or, slice_index_or, slice_set, Contains}
-use Rattle.std.specs.Prelude.{MatchOption}
-use Rattle.std.specs.Option.{option_map_or}
 use Rattle.std.proofs.lemmas.List.Elements.{Contains-append_left, Contains-push, Contains-push_cases}
-use Rattle.rm_base.specs.Store.{Held}
-use Rattle.rm_base.specs.declared.block.Change.{Change}
-use Rattle.rm_base.specs.declared.refusal.Refusal.{Refusal}
-use Rattle.rm_catalog.specs.declared.record.LogEntry.{LogEntry}
-use Rattle.rm_catalog.specs.declared.record.PieceEntry.{PieceEntry}
-use Rattle.rm_catalog.specs.declared.record.SetEntry.{SetEntry}
-use Rattle.rm_history.specs.declared.tree.Incarnation.{Incarnation}
-use Rattle.rm_history.specs.Tree.{IsThere, end_of, parent_of, reset_of, with_end}
+use Rattle.rm_base.specs.{Store.{Held}, declared.{block.Change.{Change}, refusal.Refusal.{Refusal}}}
+use Rattle.rm_catalog.specs.declared.record.{LogEntry.{LogEntry}, PieceEntry.{PieceEntry}, SetEntry.{SetEntry}}
+use Rattle.rm_history.specs.{Tree.{IsThere, end_of, parent_of, reset_of, with_end}, declared.tree.Incarnation.{Incarnation}}
 use Rattle.rm_history.proofs.Owners.{end-there, parent-there, reset-there}
-use Rattle.rm_catalog_typed.proofs.Ones.{contains-with}
-use Rattle.rm_catalog_typed.specs.TypedCatalog.{TypedCatalog}
-use Rattle.rm_lang_statement.specs.declared.command.Command.{Command}
-use Rattle.rm_lang_statement.specs.declared.command.Command.TheVariants.{CatalogName}
-use Rattle.rm_piece.specs.Spelling as piece_format
-use Rattle.rm_piece.specs.SetSpelling.{set_head}
-use Rattle.rm_piece.proofs.Fitting.{spelling_same as piece_same}
+use Rattle.rm_catalog_typed.{specs.{TypedCatalog.{TypedCatalog}, Worlds.{database_of}}, proofs.Ones.{contains-with}}
+use Rattle.rm_lang_statement.specs.declared.command.Command.{Command, TheVariants.{CatalogName}}
+use Rattle.rm_piece.{specs.{Spelling as piece_format, SetSpelling.{set_head}}, proofs.Fitting.{spelling_same as piece_same}}
 use Rattle.rm_piece.proofs.SetFitting.{spelling_same as set_same}
-use Rattle.rm_redo.specs.LogFormat as log_format
-use Rattle.rm_redo.proofs.LogFitting.{spelling_same as log_same}
+use Rattle.rm_redo.{specs.LogFormat as log_format, proofs.LogFitting.{spelling_same as log_same}}
 use Rattle.rm_report.specs.declared.line.Line.{Line}
 use Rattle.rm_evidence.specs.Objects.{piece_entry}
 use Rattle.rm_machine.specs.CatalogName.{Found, IsCatalogOutcome, IsFound, artefact_of, catalog_by, catalog_refusal, catalogued, catalogues, cataloguing, found_log, found_piece, inc_of, name_of, raised, top_of}
-use Rattle.rm_machine.specs.Effect.{Artefact, Effect, Made, a_log, a_piece, a_set, done, refused}
-use Rattle.rm_machine.specs.Honest.{IsHonest, IsRecorded}
+use Rattle.rm_machine.specs.{Effect.{Artefact, Effect, Made, a_log, a_piece, a_set, done, refused}, Honest.{IsHonest, IsRecorded}}
 use Rattle.rm_machine.specs.Laws.{LeadsOn}
 use Rattle.rm_machine.specs.Machine.{DigestsTell, EndsWithin, HasLogArtefact, HasPieceArtefact, IsBorneOut, IsTrueArtefact, IsValidArtefact, Machine}
-use Rattle.rm_machine.specs.Nature.{nature_of}
-use Rattle.rm_machine.specs.declared.nature.Nature.TheVariants.{Records}
-use Rattle.rm_machine.specs.Saved.{spelling_of}
-use Rattle.rm_machine.specs.Sound.{IsSound}
-use Rattle.rm_machine.specs.SwitchLogfile.{log_entry}
-use Rattle.rm_machine.specs.Upkeep.{with_catalog}
-use Rattle.rm_machine.specs.declared.state.State.{State}
-use Rattle.rm_machine.specs.State.{ledger, tree, world}
-use Rattle.rm_catalog_typed.specs.Worlds.{database_of}
+use Rattle.rm_machine.specs.{Nature.{nature_of}, Saved.{spelling_of}, Sound.{IsSound}, SwitchLogfile.{log_entry}, Upkeep.{with_catalog}}
+use Rattle.rm_machine.specs.{State.{ledger, tree, world}, declared.{nature.Nature.TheVariants.{Records}, state.State.{State}}}
 use Rattle.rm_machine.proofs.Cataloguing.{accepted, found-fits, next-catalogued, saved-catalogued, sound-catalogued}
-use Rattle.rm_machine.proofs.Kept.{kept-on, stand-same, stays-so}
-use Rattle.rm_machine.proofs.Later.{fits-with, resting}
-use Rattle.rm_machine_laws.specs.Loose.{StaysLoose}
-use Rattle.rm_machine_laws.proofs.Leading.{LeadsOnAsking, StaysBy, leads-asking}
-use Rattle.rm_machine_laws.proofs.Loosening.{nothing-named}
-use Rattle.rm_machine_laws.proofs.LooseQuiet.{loose-done}
-use Rattle.rm_machine_laws.proofs.Quiet.{same-stays, unchanged}
-use Rattle.rm_machine_laws.proofs.Roomy.{KeepsIds, LeavesIds, enough, leaves}
+use Rattle.rm_machine.proofs.{Kept.{kept-on, stand-same, stays-so}, Later.{fits-with, resting}}
+use Rattle.rm_machine_laws.{specs.Loose.{StaysLoose}, proofs.{Leading.{LeadsOnAsking, StaysBy, leads-asking}, Loosening.{nothing-named}}}
+use Rattle.rm_machine_laws.proofs.{LooseQuiet.{loose-done}, Quiet.{same-stays, unchanged}, Roomy.{KeepsIds, LeavesIds, enough, leaves}}
 
 -- What was done
 

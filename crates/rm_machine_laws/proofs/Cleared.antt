@@ -1,61 +1,27 @@
 -- Exactly the obsolete records go, with their objects: nothing that a target of the window needs is lost, and a second time none is found.
-use Rattle.std.proofs.Common.{◌≡◌, ◌∙◌, ◌⊎◌, ◌==◌, inl, inr, ℕ, List, [], ◌∷◌, refl, ap, sym, subst, Contains}
-use Rattle.std.specs.List.{list_any}
-use Rattle.std.proofs.lemmas.Bool.{cases_Bool, eq-eqb, eqb-true, false≢true}
-use Rattle.std.proofs.lemmas.Option.{same_Some}
-use Rattle.rm_base.specs.Store.{Held}
-use Rattle.rm_base.specs.declared.block.Change.{Change}
-use Rattle.rm_base.specs.declared.kinds.Policy.{Policy}
-use Rattle.rm_base.specs.declared.kinds.Policy.TheVariants.{Nothing, Redundancy, Window}
-use Rattle.rm_base.proofs.Lists.{any_from, any_none}
-use Rattle.rm_base.proofs.Members.{in-front}
-use Rattle.rm_catalog.specs.declared.record.LogEntry.{LogEntry}
-use Rattle.rm_catalog.specs.declared.record.PieceEntry.{PieceEntry}
-use Rattle.rm_catalog.specs.declared.record.Record.{Record}
-use Rattle.rm_catalog.specs.declared.record.Record.TheVariants as kind
-use Rattle.rm_catalog.specs.declared.record.SetEntry.{SetEntry}
-use Rattle.rm_catalog.specs.Keys.{at, key_of, place, place_of}
-use Rattle.rm_catalog.specs.Rules.{IsCatalog}
+use Rattle.std.{specs.List.{list_any}, proofs.Common.{◌≡◌, ◌∙◌, ◌⊎◌, ◌==◌, inl, inr, ℕ, List, [], ◌∷◌, refl, ap, sym, subst, Contains}}
+use Rattle.std.proofs.lemmas.{Bool.{cases_Bool, eq-eqb, eqb-true, false≢true}, Option.{same_Some}}
+use Rattle.rm_base.specs.{Store.{Held}, declared.{block.Change.{Change}, kinds.Policy.{Policy, TheVariants.{Nothing, Redundancy, Window}}}}
+use Rattle.rm_base.proofs.{Lists.{any_from, any_none}, Members.{in-front}}
+use Rattle.rm_catalog.specs.{Keys.{at, key_of, place, place_of}, Rules.{IsCatalog}, declared.record.LogEntry.{LogEntry}}
+use Rattle.rm_catalog.specs.declared.record.{PieceEntry.{PieceEntry}, Record.{Record, TheVariants as kind}, SetEntry.{SetEntry}}
 use Rattle.rm_apply.proofs.Unique.{evidence_one}
-use Rattle.rm_evidence.specs.declared.evidence.Evidence.{Evidence}
-use Rattle.rm_evidence.specs.Database.{database_in}
-use Rattle.rm_evidence.specs.Known.{known_of}
-use Rattle.rm_evidence.proofs.Worlds.{is_world}
+use Rattle.rm_evidence.{specs.{Database.{database_in}, Known.{known_of}, declared.evidence.Evidence.{Evidence}}, proofs.Worlds.{is_world}}
+use Rattle.rm_evidence.proofs.{Current.{current_is}, Found.{at-is}}
+use Rattle.rm_history.specs.{History.{IsHistory}, Evidence.{Agrees}, FirstGap.{IsRecoverable, IsTarget}, Known.{Determined}}
 use Rattle.rm_history.specs.declared.world.World.{World}
-use Rattle.rm_history.specs.History.{IsHistory}
-use Rattle.rm_history.specs.Evidence.{Agrees}
-use Rattle.rm_history.specs.FirstGap.{IsRecoverable, IsTarget}
-use Rattle.rm_history.specs.Known.{Determined}
-use Rattle.rm_catalog_typed.specs.Ledger.{Ledger, ledger_records}
+use Rattle.rm_catalog_typed.specs.{Ledger.{Ledger, ledger_records}, Facts.{IsTypedCatalog}, TypedCatalog.{TypedCatalog, records_of}}
 use Rattle.rm_catalog_typed.proofs.Lookups.{IsOwn, own-has, record-own}
-use Rattle.rm_evidence.proofs.Current.{current_is}
-use Rattle.rm_evidence.proofs.Found.{at-is}
-use Rattle.rm_catalog_typed.specs.Facts.{IsTypedCatalog}
-use Rattle.rm_catalog_typed.specs.TypedCatalog.{TypedCatalog, records_of}
 use Rattle.rm_catalog_typed.proofs.Members.{either-of, ledger-has, log-has, log-in, piece-has, piece-in, set-has, set-in, site-has}
-use Rattle.rm_catalog_typed.proofs.Valid.{typed_catalog-valid}
-use Rattle.rm_retain.specs.Catalogued.{AreObsolete, IsObsoleteRecord}
-use Rattle.rm_retain.specs.Chosen.{Retention}
-use Rattle.rm_retain.specs.Cleared.{IsCleared}
-use Rattle.rm_retain.specs.Losing.{FitsHistory, LosesNeedless}
-use Rattle.rm_retain.proofs.Clearing.{gathered_left}
-use Rattle.rm_retain.proofs.CopiesLeft.{was_obsolete}
-use Rattle.rm_retain.proofs.Safe.{safe_recoverable, safe_told}
-use Rattle.rm_retain.proofs.WholeCopies.{copies_whole}
-use Rattle.rm_machine.specs.Effect.{Made}
-use Rattle.rm_machine.specs.Machine.{DigestsTellFor, IsBorneOut}
-use Rattle.rm_machine.specs.Names as names
-use Rattle.rm_machine.specs.Obsolete.{AreObsoleteIn, IsSafe, IsSafeBy, KeepsTargets, retention_of}
-use Rattle.rm_machine.specs.Recovery.{IsAtHand, in_place}
-use Rattle.rm_machine.specs.Sound.{IsSound}
-use Rattle.rm_machine.specs.declared.state.State.{State}
-use Rattle.rm_machine.specs.State.{ledger}
-use Rattle.rm_machine.specs.Upkeep.{with_catalog, without_all, without_record}
-use Rattle.rm_machine_laws.proofs.Agreeing.{evidence-agrees}
-use Rattle.rm_machine_laws.proofs.Deleting.{left-log, left-piece, left-set, stays-log, stays-piece, stays-set}
-use Rattle.rm_machine.proofs.Entries.{with_entries}
-use Rattle.rm_catalog_typed.proofs.Records.{base-told, database-told, world-told}
-use Rattle.rm_machine.proofs.Upkeep.{all-on}
+use Rattle.rm_catalog_typed.proofs.{Valid.{typed_catalog-valid}, Records.{base-told, database-told, world-told}}
+use Rattle.rm_retain.specs.{Catalogued.{AreObsolete, IsObsoleteRecord}, Chosen.{Retention}, Cleared.{IsCleared}}
+use Rattle.rm_retain.{specs.Losing.{FitsHistory, LosesNeedless}, proofs.{Clearing.{gathered_left}, CopiesLeft.{was_obsolete}}}
+use Rattle.rm_retain.proofs.{Safe.{safe_recoverable, safe_told}, WholeCopies.{copies_whole}}
+use Rattle.rm_machine.specs.{Names as names, Effect.{Made}, Machine.{DigestsTellFor, IsBorneOut}}
+use Rattle.rm_machine.specs.{Obsolete.{AreObsoleteIn, IsSafe, IsSafeBy, KeepsTargets, retention_of}, Recovery.{IsAtHand, in_place}}
+use Rattle.rm_machine.specs.{Sound.{IsSound}, State.{ledger}, Upkeep.{with_catalog, without_all, without_record}}
+use Rattle.rm_machine.{specs.declared.state.State.{State}, proofs.{Entries.{with_entries}, Upkeep.{all-on}}}
+use Rattle.rm_machine_laws.proofs.{Agreeing.{evidence-agrees}, Deleting.{left-log, left-piece, left-set, stays-log, stays-piece, stays-set}}
 
 -- an id is one of these, or none
 among : (ids : List ℕ) (n : ℕ) → Contains ids n ⊎ (¬ Contains ids n)

@@ -1,41 +1,19 @@
 -- HOST CORRUPT leads on: a block in place is damaged.
-use Rattle.std.proofs.Common.{◌≡◌, ◌<◌, ◌-◌, ◌∙◌, ◌==◌, ◌&&◌, inl, inr, ℕ, List, Option, Some, None, IsSome, is_some, Bool, true, false, cond, refl, ap, sym, subst, arith, slice_get}
 use Rattle.std.specs.Option.{option_map, option_map_or}
-use Rattle.std.proofs.lemmas.Bool.{false≢true}
-use Rattle.std.proofs.lemmas.List.{length-map}
-use Rattle.std.proofs.lemmas.List.Elements.{All-weaker}
-use Rattle.std.proofs.lemmas.Option.{option_and_then_some, slice_get_within}
-use Rattle.rm_base.specs.Store.{Held}
-use Rattle.rm_base.specs.declared.block.BlockId.{BlockId}
-use Rattle.rm_base.specs.declared.block.Change.{Change}
-use Rattle.rm_base.specs.declared.block.Row.{Row}
-use Rattle.rm_base.specs.declared.refusal.Refusal.{Refusal}
-use Rattle.rm_base.proofs.Conditions.{only-where}
-use Rattle.rm_base.proofs.Lists.{any_to}
-use Rattle.rm_base.proofs.Slots.{all-get, all-set_others, index-set}
+use Rattle.std.proofs.Common.{◌≡◌, ◌<◌, ◌-◌, ◌∙◌, ◌==◌, ◌&&◌, inl, inr, ℕ, List, Option, Some, None, IsSome, is_some, Bool, true, false, cond, refl, ap, sym, subst, arith, slice_get}
+use Rattle.std.proofs.lemmas.{Bool.{false≢true}, List.{length-map, Elements.{All-weaker}}, Option.{option_and_then_some, slice_get_within}}
+use Rattle.rm_base.specs.{Store.{Held}, declared.{block.{BlockId.{BlockId}, Change.{Change}, Row.{Row}}, refusal.Refusal.{Refusal}}}
+use Rattle.rm_base.proofs.{Conditions.{only-where}, Lists.{any_to}, Slots.{all-get, all-set_others, index-set}}
 use Rattle.rm_blocks.specs.File.{File, put}
-use Rattle.rm_history.specs.declared.world.Datafile.{Datafile}
-use Rattle.rm_history.specs.State.{state}
-use Rattle.rm_history.proofs.Worlds.{file-there}
+use Rattle.rm_history.{specs.{State.{state}, declared.world.Datafile.{Datafile}}, proofs.Worlds.{file-there}}
 use Rattle.rm_lang_statement.specs.declared.command.Command.TheVariants.{Corrupt}
-use Rattle.rm_machine.specs.Corrupt.{corrupt_refusal, corrupted, flipped, with_damage}
-use Rattle.rm_machine.specs.Damage.{IsInPlace, has_block, has_file}
-use Rattle.rm_machine.specs.Dump.{placed_row}
-use Rattle.rm_machine.specs.Effect.{Made}
-use Rattle.rm_machine.specs.Events.{with_placed_row}
-use Rattle.rm_machine.specs.Machine.{HistoryFits, IsBorneOut, SoundRowsAre}
-use Rattle.rm_machine.specs.Sound.{IsSound}
-use Rattle.rm_machine.specs.declared.state.State.{State}
-use Rattle.rm_machine.specs.State.{current_of, now_of, on_path, placed, world}
-use Rattle.rm_machine.proofs.Damaged.{put-stays}
-use Rattle.rm_machine.proofs.Found.{IsReadOf, read-found}
-use Rattle.rm_machine.proofs.Places.{placed-is}
-use Rattle.rm_machine.proofs.Putting.{sound-more, sound-put}
+use Rattle.rm_machine.specs.{Corrupt.{corrupt_refusal, corrupted, flipped, with_damage}, Damage.{IsInPlace, has_block, has_file}}
+use Rattle.rm_machine.specs.{Dump.{placed_row}, Effect.{Made}, Events.{with_placed_row}, Machine.{HistoryFits, IsBorneOut, SoundRowsAre}}
+use Rattle.rm_machine.specs.{Sound.{IsSound}, State.{current_of, now_of, on_path, placed, world}, declared.state.State.{State}}
+use Rattle.rm_machine.proofs.{Damaged.{put-stays}, Found.{IsReadOf, read-found}, Places.{placed-is}, Putting.{sound-more, sound-put}}
 use Rattle.rm_machine.proofs.Tracked.{on-path}
-use Rattle.rm_machine_laws.proofs.DamagedLists.{any-fewer, is-block, with-block-new, with-block-old}
-use Rattle.rm_machine_laws.proofs.DamagedRows.{sound-agrees}
-use Rattle.rm_machine_laws.proofs.Leading.{LeadsOnBy, StaysBy}
-use Rattle.rm_machine_laws.proofs.Quiet.{quiet-on, quiet-stays}
+use Rattle.rm_machine_laws.proofs.{DamagedLists.{any-fewer, is-block, with-block-new, with-block-old}, DamagedRows.{sound-agrees}}
+use Rattle.rm_machine_laws.proofs.{Leading.{LeadsOnBy, StaysBy}, Quiet.{quiet-on, quiet-stays}}
 
 -- a row that stands in place is found there
 pub row-found : (s : State) (f b : ℕ) (r : Row) → IsSound s → 0 < f → placed_row s f b ≡ Some r → IsReadOf s f b r

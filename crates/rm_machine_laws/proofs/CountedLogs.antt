@@ -1,17 +1,11 @@
 -- Where all logs are lost, they count as logs of another incarnation, of the threads that are enabled at its end.
-use Rattle.std.proofs.Common.{◌≡◌, ◌-◌, ◌∙◌, ℕ, List, Bool, true, false, cond, refl, ap, sym}
-use Rattle.std.specs.Option.{option_map_or}
+use Rattle.std.{specs.Option.{option_map_or}, proofs.Common.{◌≡◌, ◌-◌, ◌∙◌, ℕ, List, Bool, true, false, cond, refl, ap, sym}}
 use Rattle.rm_base.specs.declared.block.Change.{Change}
-use Rattle.rm_history.specs.Agrees.{LogAgrees}
-use Rattle.rm_history.specs.Tree.{IsThere, end_of}
+use Rattle.rm_history.specs.{Agrees.{LogAgrees}, Tree.{IsThere, end_of}}
 use Rattle.rm_catalog_typed.specs.Switches.{enabled_at, is_enabled_in}
+use Rattle.rm_redo.specs.{LogFile.{log_of}, Logs.{Logs}, Online.{IsThread, are_lost, counted_as, lost_log, lost_logs}}
 use Rattle.rm_redo.specs.declared.online.ThreadLog.{ThreadLog}
-use Rattle.rm_redo.specs.LogFile.{log_of}
-use Rattle.rm_redo.specs.Logs.{Logs}
-use Rattle.rm_redo.specs.Online.{IsThread, are_lost, counted_as, lost_log, lost_logs}
-use Rattle.rm_machine.specs.Sound.{AreOnline}
-use Rattle.rm_machine.specs.declared.state.State.{State}
-use Rattle.rm_machine.specs.State.{is_lost, ledger, online, tree}
+use Rattle.rm_machine.specs.{Sound.{AreOnline}, State.{is_lost, ledger, online, tree}, declared.state.State.{State}}
 use Rattle.rm_machine.proofs.Threads.{all-where_gone, where-there}
 use Rattle.rm_machine_laws.proofs.FreshLogs.{where-get}
 

@@ -1,20 +1,12 @@
 -- A new database is sound.
 use Rattle.std.proofs.Common.{◌≡◌, ◌<◌, ◌≤◌, ◌^◌, ◌∙◌, nat_le, ℕ, [], Some, None, refl, ap, sym, arith}
-use Rattle.rm_base.specs.Numbers.{last_scn, last_moment}
-use Rattle.rm_base.specs.Store.{Held}
-use Rattle.rm_base.proofs.Members.{none-in}
+use Rattle.rm_base.{specs.{Numbers.{last_scn, last_moment}, Store.{Held}}, proofs.Members.{none-in}}
 use Rattle.rm_catalog_typed.proofs.Fresh.{fresh_is_ledger}
 use Rattle.rm_history.proofs.Enabled.{unswitched}
-use Rattle.rm_redo.specs.LogFile.{changes_in}
-use Rattle.rm_redo.specs.Online.{fresh_log, up_to}
-use Rattle.rm_machine.specs.CreateDatabase.{fresh_machine, fresh_state}
-use Rattle.rm_machine.specs.Machine.{HistoryFits, IsSoundMachine}
-use Rattle.rm_machine.specs.Sound.{IsSound}
-use Rattle.rm_machine.specs.declared.state.State.{State}
-use Rattle.rm_machine.proofs.Damaged.{damaged-none}
-use Rattle.rm_machine.proofs.Threads.{all-where_gone, where-there}
-use Rattle.rm_machine.proofs.Tracked.{tracked-none}
-use Rattle.rm_machine.proofs.FirstTold.{tell-none}
+use Rattle.rm_redo.specs.{LogFile.{changes_in}, Online.{fresh_log, up_to}}
+use Rattle.rm_machine.specs.{CreateDatabase.{fresh_machine, fresh_state}, Machine.{HistoryFits, IsSoundMachine}, Sound.{IsSound}}
+use Rattle.rm_machine.{specs.declared.state.State.{State}, proofs.{Damaged.{damaged-none}, Threads.{all-where_gone, where-there}}}
+use Rattle.rm_machine.proofs.{Tracked.{tracked-none}, FirstTold.{tell-none}}
 use Rattle.rm_machine_laws.proofs.FreshLogs.{fresh-empty, fresh-found, fresh-online}
 
 module _ (dbid threads scn moment : ℕ) (some : 1 ≤ dbid) (small : dbid < 2 ^ 32) (least : 1 ≤ threads) (most : threads ≤ 4) (first : 1 ≤ scn) (last : scn ≤ last_scn) (kept : moment ≤ last_moment) where

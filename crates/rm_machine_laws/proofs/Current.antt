@@ -1,10 +1,7 @@
 -- Another incarnation as the current one.
 use Rattle.std.proofs.Common.{ℕ, refl, arith}
 use Rattle.rm_history.specs.Tree.{IsThere}
-use Rattle.rm_catalog_typed.specs.Changes.{with_base}
-use Rattle.rm_catalog_typed.specs.Facts.{IsTypedCatalog}
-use Rattle.rm_catalog_typed.specs.Fitting.{FitsBase}
-use Rattle.rm_catalog_typed.specs.TypedCatalog.{TypedCatalog}
+use Rattle.rm_catalog_typed.specs.{Changes.{with_base}, Facts.{IsTypedCatalog}, Fitting.{FitsBase}, TypedCatalog.{TypedCatalog}}
 use Rattle.rm_catalog_typed.proofs.Fitted.{base_fits}
 
 -- its number may come into the base facts

@@ -1,9 +1,8 @@
 -- Lists of blocks of which some go, or to which one comes.
-use Rattle.std.proofs.Common.{◌≡◌, ◌∙◌, ◌==◌, ◌&&◌, inl, inr, ℕ, List, [], ◌∷◌, Bool, true, false, cond, filter, refl, sym, subst, Contains}
 use Rattle.std.specs.List.{list_any}
+use Rattle.std.proofs.Common.{◌≡◌, ◌∙◌, ◌==◌, ◌&&◌, inl, inr, ℕ, List, [], ◌∷◌, Bool, true, false, cond, filter, refl, sym, subst, Contains}
 use Rattle.std.proofs.lemmas.Bool.{and_from, and_parts, eq-eqb, eqb-true}
-use Rattle.rm_base.specs.declared.block.BlockId.{BlockId}
-use Rattle.rm_base.proofs.Lists.{any_fails, any_to, filter_to}
+use Rattle.rm_base.{specs.declared.block.BlockId.{BlockId}, proofs.Lists.{any_fails, any_to, filter_to}}
 use Rattle.rm_base.proofs.Members.{behind, first-or-rest, in-front, none-in}
 use Rattle.rm_machine.specs.Damage.{has_block, has_file, is_before, with_block}
 

@@ -1,18 +1,10 @@
 -- Rows in place but for those of damaged blocks.
-use Rattle.std.proofs.Common.{◌≡◌, ℕ, List, true, false, ap, sym, subst}
-use Rattle.std.proofs.lemmas.List.Elements.{All-weaker}
-use Rattle.rm_base.specs.declared.block.BlockId.{BlockId}
-use Rattle.rm_base.specs.declared.block.Change.{Change}
+use Rattle.std.proofs.{Common.{◌≡◌, ℕ, List, true, false, ap, sym, subst}, lemmas.List.Elements.{All-weaker}}
+use Rattle.rm_base.specs.declared.block.{BlockId.{BlockId}, Change.{Change}}
 use Rattle.rm_blocks.specs.File.{File, base_of}
-use Rattle.rm_history.specs.declared.world.World.{World}
-use Rattle.rm_history.specs.Agrees.{BaseAgrees}
-use Rattle.rm_history.specs.State.{state}
-use Rattle.rm_machine.specs.Damage.{has_block, has_file}
-use Rattle.rm_machine.specs.Machine.{RowsAre, SoundRowsAre}
-use Rattle.rm_machine.specs.Sound.{IsSound}
-use Rattle.rm_machine.specs.declared.state.State.{State}
-use Rattle.rm_machine.specs.State.{counted, current_of, now_of, world}
-use Rattle.rm_machine.proofs.LosingFits.{no-block}
+use Rattle.rm_history.specs.{Agrees.{BaseAgrees}, State.{state}, declared.world.World.{World}}
+use Rattle.rm_machine.specs.{Damage.{has_block, has_file}, Machine.{RowsAre, SoundRowsAre}, Sound.{IsSound}}
+use Rattle.rm_machine.{specs.{State.{counted, current_of, now_of, world}, declared.state.State.{State}}, proofs.LosingFits.{no-block}}
 use Rattle.rm_machine.proofs.Places.{counted-open}
 use Rattle.rm_machine_laws.proofs.Opened.{rows-agree}
 

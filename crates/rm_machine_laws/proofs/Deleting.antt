@@ -1,39 +1,22 @@
 -- Records go, and their objects: no record that is left names what goes. So DELETE BACKUP leads on.
+use Rattle.std.specs.{List.{flat_map}, Str.{bytes_eq}}
 use Rattle.std.proofs.Common.{◌≡◌, ◌≢◌, ◌<◌, ◌^◌, ◌∙◌, ◌++◌, ◌==◌, ◌||◌, nat_lt, inl, inr, ℕ, List, [], ◌∷◌, None, true, refl, ap, sym, subst, arith, filter, map, Contains}
-use Rattle.std.specs.List.{flat_map}
-use Rattle.std.specs.Str.{bytes_eq}
-use Rattle.std.proofs.lemmas.Bool.{cases_Bool, eqb-true, ltb-true}
-use Rattle.std.proofs.lemmas.List.Elements.{Contains-append_cases}
-use Rattle.rm_base.specs.Store.{Held}
-use Rattle.rm_base.specs.declared.block.Change.{Change}
-use Rattle.rm_base.proofs.Lists.{filter_from, map_from}
+use Rattle.std.proofs.lemmas.{Bool.{cases_Bool, eqb-true, ltb-true}, List.Elements.{Contains-append_cases}}
+use Rattle.rm_base.{specs.{Store.{Held}, declared.block.Change.{Change}}, proofs.Lists.{filter_from, map_from}}
 use Rattle.rm_base.proofs.Members.{behind, first-or-rest, in-front, none-in}
-use Rattle.rm_catalog.specs.declared.record.LogEntry.{LogEntry}
-use Rattle.rm_catalog.specs.declared.record.PieceEntry.{PieceEntry}
-use Rattle.rm_catalog.specs.declared.record.SetEntry.{SetEntry}
-use Rattle.rm_commit.specs.Names.{HasRemoves, is_named, itself, nothing}
-use Rattle.rm_commit.proofs.Named.{same-name, unnamed-stays}
-use Rattle.rm_catalog_typed.specs.Ledger.{Ledger}
+use Rattle.rm_catalog.specs.declared.record.{LogEntry.{LogEntry}, PieceEntry.{PieceEntry}, SetEntry.{SetEntry}}
+use Rattle.rm_commit.{specs.Names.{HasRemoves, is_named, itself, nothing}, proofs.Named.{same-name, unnamed-stays}}
+use Rattle.rm_catalog_typed.specs.{Ledger.{Ledger}, Changes.{higher, lower, without_one}, Facts.{IsTypedCatalog}}
+use Rattle.rm_catalog_typed.{specs.TypedCatalog.{TypedCatalog}, proofs.Lookups.{log-id-within, piece-id-within, set-id-within}}
 use Rattle.rm_evidence.specs.Names.{log_name, piece_name, roll_name, set_name, site_name}
 use Rattle.rm_evidence.proofs.Names.{log-name-tells, log-no-piece, log-no-roll, log-no-set, log-no-site, piece-name-tells, piece-no-roll, piece-no-set, piece-no-site, set-name-tells, set-no-roll, set-no-site}
-use Rattle.rm_catalog_typed.specs.Changes.{higher, lower, without_one}
-use Rattle.rm_catalog_typed.specs.Facts.{IsTypedCatalog}
-use Rattle.rm_catalog_typed.specs.TypedCatalog.{TypedCatalog}
-use Rattle.rm_catalog_typed.proofs.Lookups.{log-id-within, piece-id-within, set-id-within}
 use Rattle.rm_report.specs.declared.line.Line.{Line}
 use Rattle.rm_lang_statement.specs.declared.command.Command.TheVariants.{DeleteBackup}
-use Rattle.rm_machine.specs.Effect.{Effect, LeavesObjects, Made, done}
-use Rattle.rm_machine.specs.Machine.{IsBorneOut}
-use Rattle.rm_machine.specs.Names.{IsObjectName, of_log, of_piece, of_set}
-use Rattle.rm_machine.specs.Sound.{IsSound}
-use Rattle.rm_machine.specs.declared.state.State.{State}
-use Rattle.rm_machine.specs.Upkeep.{names_at, removing, with_catalog, without_all, without_record}
-use Rattle.rm_machine.proofs.Kept.{StandOn, stand-where}
-use Rattle.rm_machine.proofs.Later.{borne-beside}
-use Rattle.rm_machine_laws.proofs.Leading.{LeadsOnBy, StaysBy}
-use Rattle.rm_machine_laws.proofs.Quiet.{removing-on, removing-stays}
-use Rattle.rm_machine.proofs.Upkeep.{all-on}
-use Rattle.rm_machine.proofs.Deleting.{stays-one}
+use Rattle.rm_machine.specs.{Effect.{Effect, LeavesObjects, Made, done}, Machine.{IsBorneOut}}
+use Rattle.rm_machine.specs.{Names.{IsObjectName, of_log, of_piece, of_set}, Sound.{IsSound}}
+use Rattle.rm_machine.specs.{Upkeep.{names_at, removing, with_catalog, without_all, without_record}, declared.state.State.{State}}
+use Rattle.rm_machine.proofs.{Kept.{StandOn, stand-where}, Later.{borne-beside}, Upkeep.{all-on}, Deleting.{stays-one}}
+use Rattle.rm_machine_laws.proofs.{Leading.{LeadsOnBy, StaysBy}, Quiet.{removing-on, removing-stays}}
 
 -- one of these names
 pub named-in : (names : List (List ℕ)) (name : List ℕ) → is_named itself names name ≡ true → Contains names name

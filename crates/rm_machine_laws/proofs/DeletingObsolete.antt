@@ -1,19 +1,14 @@
 -- DELETE OBSOLETE leads on, keeps the targets of the window, and a second time finds nothing.
-use Rattle.std.proofs.Common.{◌≡◌, ◌∙◌, ℕ, List, [], ap, sym, subst}
-use Rattle.std.specs.List.{flat_map}
+use Rattle.std.{specs.List.{flat_map}, proofs.Common.{◌≡◌, ◌∙◌, ℕ, List, [], ap, sym, subst}}
 use Rattle.rm_base.specs.Store.{Held}
 use Rattle.rm_report.specs.declared.line.Line.{Line}
 use Rattle.rm_lang_statement.specs.declared.command.Command.TheVariants.{DeleteObsolete}
-use Rattle.rm_machine.specs.Effect.{Effect, LeavesObjects, done}
-use Rattle.rm_machine.specs.Names.{IsObjectName}
-use Rattle.rm_machine.specs.Obsolete.{AreObsoleteIn, IsDeleteObsoleteOutcome, IsSafe}
-use Rattle.rm_machine.specs.Sound.{IsSound}
-use Rattle.rm_machine.specs.declared.state.State.{State}
-use Rattle.rm_machine.specs.Upkeep.{names_at, removing, with_catalog, without_all}
-use Rattle.rm_machine_laws.proofs.Cleared.{is-safe, none-again, entries-left}
-use Rattle.rm_machine_laws.proofs.Deleting.{AreGone, all-gone, gone-on, gone-stays, object-stays}
+use Rattle.rm_machine.specs.{Effect.{Effect, LeavesObjects, done}, Names.{IsObjectName}}
+use Rattle.rm_machine.specs.{Obsolete.{AreObsoleteIn, IsDeleteObsoleteOutcome, IsSafe}, Sound.{IsSound}}
+use Rattle.rm_machine.specs.{Upkeep.{names_at, removing, with_catalog, without_all}, declared.state.State.{State}}
 use Rattle.rm_machine.proofs.Entries.{with_entries}
-use Rattle.rm_machine_laws.proofs.Leading.{LeadsOnBy, StaysBy}
+use Rattle.rm_machine_laws.proofs.Cleared.{is-safe, none-again, entries-left}
+use Rattle.rm_machine_laws.proofs.{Deleting.{AreGone, all-gone, gone-on, gone-stays, object-stays}, Leading.{LeadsOnBy, StaysBy}}
 
 module _ (s : State) (ids : List ℕ) where
   -- the names of the objects that go

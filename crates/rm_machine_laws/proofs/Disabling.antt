@@ -1,23 +1,13 @@
 -- DISABLE THREAD leads on: the thread's log is archived, where it is due, and its switch is recorded.
 use Rattle.std.proofs.Common.{◌≡◌, ◌∙◌, ◌++◌, ℕ, List, None, false, refl}
-use Rattle.rm_base.specs.Store.{Held}
-use Rattle.rm_base.specs.declared.block.Change.{Change}
+use Rattle.rm_base.specs.{Store.{Held}, declared.block.Change.{Change}}
 use Rattle.rm_lang_statement.specs.declared.command.Command.TheVariants.{SwitchThread}
-use Rattle.rm_machine.specs.Archive.{after_thread, made_by, puts_by}
-use Rattle.rm_machine.specs.DisableThread.{disable_refusal, disabling, with_thread_off}
-use Rattle.rm_machine.specs.Effect.{Made}
-use Rattle.rm_machine.specs.Machine.{IsBorneOut}
-use Rattle.rm_machine.specs.declared.state.State.{State}
-use Rattle.rm_machine.specs.State.{ledger}
-use Rattle.rm_machine.proofs.Archives.{beside-thread}
-use Rattle.rm_machine.proofs.Disabling.{after-due, brought, can-archive, can-disable, number, sound-disabled}
-use Rattle.rm_machine.proofs.Kept.{stand-same}
-use Rattle.rm_machine.proofs.Later.{borne-beside}
-use Rattle.rm_machine_laws.proofs.Archives.{due-stand}
-use Rattle.rm_machine_laws.proofs.Leading.{LeadsOnBy, StaysBy}
-use Rattle.rm_machine_laws.proofs.NewObjects.{with_puts}
-use Rattle.rm_machine_laws.proofs.Quiet.{same-stays, unchanged}
-use Rattle.rm_machine_laws.proofs.ThreadSwitches.{borne-switched}
+use Rattle.rm_machine.specs.{Archive.{after_thread, made_by, puts_by}, DisableThread.{disable_refusal, disabling, with_thread_off}}
+use Rattle.rm_machine.specs.{Effect.{Made}, Machine.{IsBorneOut}, State.{ledger}, declared.state.State.{State}}
+use Rattle.rm_machine.proofs.{Archives.{beside-thread}, Disabling.{after-due, brought, can-archive, can-disable, number, sound-disabled}}
+use Rattle.rm_machine.proofs.{Kept.{stand-same}, Later.{borne-beside}}
+use Rattle.rm_machine_laws.proofs.{Archives.{due-stand}, Leading.{LeadsOnBy, StaysBy}, NewObjects.{with_puts}}
+use Rattle.rm_machine_laws.proofs.{Quiet.{same-stays, unchanged}, ThreadSwitches.{borne-switched}}
 
 borne-disabled : (s : State) (t : ℕ) (h : List Change) (objects : Held) (made : List Made) (touched : List (List ℕ))
     → disable_refusal s t ≡ None → IsBorneOut s h objects made touched

@@ -1,22 +1,14 @@
 -- The objects of a saved site come and go, and the names of logs, pieces and sets are none of theirs.
-use Rattle.std.proofs.Common.{◌≡◌, ◌∙◌, ◌+◌, ◌++◌, ◌||◌, ℕ, List, [], ◌∷◌, Option, Some, None, Bool, true, false, refl, sym, subst, map, inl, inr}
 use Rattle.std.specs.Str.{bytes_eq}
-use Rattle.std.proofs.lemmas.Bool.{cases_Bool, false≢true}
-use Rattle.std.proofs.lemmas.Slice.Eq.{bytes_eq-Decides}
+use Rattle.std.proofs.Common.{◌≡◌, ◌∙◌, ◌+◌, ◌++◌, ◌||◌, ℕ, List, [], ◌∷◌, Option, Some, None, Bool, true, false, refl, sym, subst, map, inl, inr}
+use Rattle.std.proofs.lemmas.{Bool.{cases_Bool, false≢true}, Slice.Eq.{bytes_eq-Decides}}
 use Rattle.rm_base.specs.Store.{Held}
 use Rattle.rm_catalog.specs.declared.record.PartEntry.{PartEntry}
-use Rattle.rm_commit.specs.Names.{after_all, is_named, itself, name_of, nothing}
-use Rattle.rm_commit.proofs.Named.{unnamed-stays}
-use Rattle.rm_catalog_typed.specs.Ledger.{Ledger}
+use Rattle.rm_commit.{specs.Names.{after_all, is_named, itself, name_of, nothing}, proofs.Named.{unnamed-stays}}
+use Rattle.rm_catalog_typed.specs.{Ledger.{Ledger}, TypedCatalog.{Saved}}
 use Rattle.rm_evidence.specs.Names.{site_name}
-use Rattle.rm_catalog_typed.specs.TypedCatalog.{Saved}
-use Rattle.rm_machine.specs.declared.state.State.{State}
-use Rattle.rm_machine.specs.Effect.{Effect, LeavesObjects}
-use Rattle.rm_machine.specs.Saved.{saved_names}
-use Rattle.rm_machine.specs.Saving.{SitePart, object_of, with_ids}
-use Rattle.rm_machine.specs.Step.{and_drops}
-use Rattle.rm_machine.proofs.Kept.{StandOn}
-use Rattle.rm_machine.proofs.Dropping.{IsNoSite, no-site}
+use Rattle.rm_machine.specs.{Effect.{Effect, LeavesObjects}, Saved.{saved_names}, Saving.{SitePart, object_of, with_ids}, Step.{and_drops}}
+use Rattle.rm_machine.{specs.declared.state.State.{State}, proofs.{Kept.{StandOn}, Dropping.{IsNoSite, no-site}}}
 
 -- one list of changes after another
 pub after-both : {X : Type 0} (name : X → List ℕ) (value : X → Option (List ℕ)) (xs ys : List X) (n : List ℕ) (o : Option (List ℕ))

@@ -2,12 +2,8 @@
 use Rattle.std.proofs.Common.{ℕ, true}
 use Rattle.rm_lang_statement.specs.declared.command.Command.TheVariants.{SwitchThread}
 use Rattle.rm_catalog_typed.specs.Switches.{next_sequence}
-use Rattle.rm_machine.specs.EnableThread.{with_thread_on}
-use Rattle.rm_machine.specs.State.{ledger}
-use Rattle.rm_machine.proofs.Enabling.{can-enable, sound-enabled}
-use Rattle.rm_machine_laws.proofs.Leading.{LeadsOnBy, StaysBy}
-use Rattle.rm_machine_laws.proofs.Quiet.{quiet-on, quiet-stays}
-use Rattle.rm_machine_laws.proofs.ThreadSwitches.{borne-switched}
+use Rattle.rm_machine.{specs.{EnableThread.{with_thread_on}, State.{ledger}}, proofs.Enabling.{can-enable, sound-enabled}}
+use Rattle.rm_machine_laws.proofs.{Leading.{LeadsOnBy, StaysBy}, Quiet.{quiet-on, quiet-stays}, ThreadSwitches.{borne-switched}}
 
 pub enable-on : (t : ℕ) → LeadsOnBy (SwitchThread t true)
 enable-on t s h objects made touched said e q after well stands tell none does effect =

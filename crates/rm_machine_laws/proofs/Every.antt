@@ -3,39 +3,25 @@ use Rattle.std.proofs.Common.{◌≡◌, true, false, refl}
 use Rattle.rm_lang_statement.specs.declared.command.Command.{Command}
 use Rattle.rm_lang_statement.specs.declared.command.Command.TheVariants.{ArchiveLogCurrent, Backup, BackupFrom, BackupLogs, BlockRecover, CatalogName, ChangeBackup, Corrupt, CreateDatabase, CreateDatafile, Crosscheck, Cut, Damage, DeleteBackup, DeleteExpired, DeleteObsolete, Dump, ListArchived, ListBackup, ListCopy, ListCorruption, ListIncarnation, LoseDatafile, LoseLog, Mount, OpenPlain, OpenResetlogs, Parallelism, Preview, Recover, RecoverTest, Remove, Rename, ReportNeedBackup, ReportObsolete, ReportSchema, ResetDatabase, Restore, Retention, ShowAll, SwitchLogfile, SwitchThread, Tracking, ValidateAll, Write, RecoverCopy}
 use Rattle.rm_machine.specs.Laws.{LeadsOn, TellsOn, only_tells}
-use Rattle.rm_machine_laws.proofs.AddingDatafile.{create-on, create-stays}
-use Rattle.rm_machine_laws.proofs.ArchivingAll.{all-on, all-stays}
-use Rattle.rm_machine_laws.proofs.BackingUp.{backup-on, backup-stays}
-use Rattle.rm_machine_laws.proofs.BackingUpLogs.{back_logs-on, back_logs-stays}
+use Rattle.rm_machine_laws.{specs.Loose.{StaysLoose}, proofs.{AddingDatafile.{create-on, create-stays}, ArchivingAll.{all-on, all-stays}}}
+use Rattle.rm_machine_laws.proofs.{BackingUp.{backup-on, backup-stays}, BackingUpLogs.{back_logs-on, back_logs-stays}}
 use Rattle.rm_machine_laws.proofs.Branching.{resets-on, resets-stays}
 use Rattle.rm_machine_laws.proofs.Cataloguing.{catalog-leads, catalog-loose, catalog-roomy, catalog-stays}
-use Rattle.rm_machine_laws.proofs.Choosing.{choose-on, choose-stays}
-use Rattle.rm_machine_laws.proofs.Corrupting.{corrupt-on, corrupt-stays}
-use Rattle.rm_machine_laws.proofs.Deleting.{delete-on, delete-stays}
-use Rattle.rm_machine_laws.proofs.DeletingObsolete.{obsolete-on, obsolete-stays}
-use Rattle.rm_machine_laws.proofs.Disabling.{disable-on, disable-stays}
-use Rattle.rm_machine_laws.proofs.Enabling.{enable-on, enable-stays}
+use Rattle.rm_machine_laws.proofs.{Choosing.{choose-on, choose-stays}, Corrupting.{corrupt-on, corrupt-stays}}
+use Rattle.rm_machine_laws.proofs.{Deleting.{delete-on, delete-stays}, DeletingObsolete.{obsolete-on, obsolete-stays}}
+use Rattle.rm_machine_laws.proofs.{Disabling.{disable-on, disable-stays}, Enabling.{enable-on, enable-stays}}
 use Rattle.rm_machine_laws.proofs.Mishaps.{cut-on, cut-stays, damage-on, damage-stays, remove-on, remove-stays, rename-on, rename-stays}
-use Rattle.rm_machine_laws.proofs.Leading.{LeadsOnBy, StaysBy, leads, tells}
-use Rattle.rm_machine_laws.proofs.Losing.{lose-on, lose-stays}
-use Rattle.rm_machine_laws.proofs.LosingLog.{lose_log-on, lose_log-stays}
-use Rattle.rm_machine_laws.proofs.Mounting.{mount-on, mount-stays}
-use Rattle.rm_machine_laws.proofs.Opening.{open-on, open-stays}
-use Rattle.rm_machine_laws.proofs.Recovered.{recover-on, recover-stays}
-use Rattle.rm_machine_laws.proofs.Renewals.{renew-on, renew-stays}
-use Rattle.rm_machine_laws.proofs.Repairing.{repair-on, repair-stays}
-use Rattle.rm_machine_laws.proofs.Restoring.{restore-on, restore-stays}
+use Rattle.rm_machine_laws.proofs.{Leading.{LeadsOnBy, StaysBy, leads, tells}, Losing.{lose-on, lose-stays}}
+use Rattle.rm_machine_laws.proofs.{LosingLog.{lose_log-on, lose_log-stays}, Mounting.{mount-on, mount-stays}, Opening.{open-on, open-stays}}
+use Rattle.rm_machine_laws.proofs.{Recovered.{recover-on, recover-stays}, Renewals.{renew-on, renew-stays}}
+use Rattle.rm_machine_laws.proofs.{Repairing.{repair-on, repair-stays}, Restoring.{restore-on, restore-stays}}
 use Rattle.rm_machine_laws.proofs.Rolling.{roll-loose, roll-on, roll-stays}
 use Rattle.rm_machine_laws.proofs.Settings.{parallelism-on, parallelism-stays, retention-on, retention-stays}
-use Rattle.rm_machine_laws.proofs.Switching.{switch-on, switch-stays}
-use Rattle.rm_machine_laws.proofs.Telling.{every-tells-by, tells-on, tells-stays}
+use Rattle.rm_machine_laws.proofs.{Switching.{switch-on, switch-stays}, Telling.{every-tells-by, tells-on, tells-stays}}
 use Rattle.rm_machine_laws.proofs.Tracking.{tracking-on, tracking-stays}
 use Rattle.rm_machine_laws.proofs.Upkeep.{changed-on, changed-stays, checked-on, checked-stays, expired-on, expired-stays}
-use Rattle.rm_machine_laws.proofs.Writing.{write-on, write-stays}
-use Rattle.rm_machine_laws.specs.Loose.{StaysLoose}
-use Rattle.rm_machine_laws.proofs.Founding.{never-again, never-loose}
-use Rattle.rm_machine_laws.proofs.LooseBackup.{back_logs-loose, backup-loose}
-use Rattle.rm_machine_laws.proofs.LooseCopies.{renew-loose}
+use Rattle.rm_machine_laws.proofs.{Writing.{write-on, write-stays}, Founding.{never-again, never-loose}}
+use Rattle.rm_machine_laws.proofs.{LooseBackup.{back_logs-loose, backup-loose}, LooseCopies.{renew-loose}}
 use Rattle.rm_machine_laws.proofs.LooseMishaps.{cut-loose, damage-loose, remove-loose, rename-loose}
 use Rattle.rm_machine_laws.proofs.LooseNew.{archive-loose, branch-loose, disable-loose, switch-loose}
 use Rattle.rm_machine_laws.proofs.LooseUpkeep.{change-loose, check-loose, delete-loose, expire-loose, obsolete-loose}

@@ -1,22 +1,13 @@
 -- A mounted database with other datafiles in place.
 use Rattle.std.proofs.Common.{◌≡◌, ◌+◌, ◌-◌, ◌∙◌, inl, inr, ℕ, List, Option, Some, None, true, false, ap, sym, subst, arith, length, slice_get, slice_index_or}
-use Rattle.std.proofs.lemmas.Bool.{both_ways}
-use Rattle.std.proofs.lemmas.Option.{slice_get_within}
-use Rattle.rm_base.specs.declared.block.Change.{Change}
-use Rattle.rm_base.proofs.Slots.{get-index, index-get}
+use Rattle.std.proofs.lemmas.{Bool.{both_ways}, Option.{slice_get_within}}
+use Rattle.rm_base.{specs.declared.block.Change.{Change}, proofs.Slots.{get-index, index-get}}
 use Rattle.rm_blocks.specs.File.{File, base_of}
-use Rattle.rm_history.specs.declared.world.Datafile.{Datafile}
-use Rattle.rm_history.specs.Agrees.{BaseAgrees}
-use Rattle.rm_history.specs.World.{exists}
+use Rattle.rm_history.specs.{Agrees.{BaseAgrees}, World.{exists}, declared.world.Datafile.{Datafile}}
 use Rattle.rm_catalog_typed.proofs.Lookups.{item-at}
-use Rattle.rm_machine.specs.Machine.{HistoryFits, RowsAre}
-use Rattle.rm_machine.specs.Sound.{IsSound}
-use Rattle.rm_machine.specs.declared.state.State.{State}
-use Rattle.rm_machine.specs.State.{ledger, world, current_of}
+use Rattle.rm_machine.specs.{Machine.{HistoryFits, RowsAre}, Sound.{IsSound}, State.{ledger, world, current_of}}
+use Rattle.rm_machine.{specs.declared.state.State.{State}, proofs.{Exchanging as shared, Places.{counted-closed}, Exchanging.{exchanged}}}
 use Rattle.rm_machine_laws.proofs.DamagedRows.{closed-file}
-use Rattle.rm_machine.proofs.Places.{counted-closed}
-use Rattle.rm_machine.proofs.Exchanging.{exchanged}
-use Rattle.rm_machine.proofs.Exchanging as shared
 
 module _ (s : State) (point : Option ℕ) (place : List (Option File)) (sound : IsSound s) (closed : s.instance.is_open ≡ false) (many : length place ≡ length s.instance.place) where
   -- each datafile stood in place, or this is true of it

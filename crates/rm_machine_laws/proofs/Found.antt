@@ -1,24 +1,13 @@
 -- What a read finds in an open database, and that it stays true.
 use Rattle.std.proofs.Common.{◌≡◌, ◌≤◌, ◌+◌, ◌++◌, ◌∙◌, inl, inr, ℕ, List, [], ◌∷◌, true, false, ap, sym, subst}
-use Rattle.rm_base.specs.declared.block.Change.{Change}
-use Rattle.rm_base.specs.declared.block.Row.{Row}
-use Rattle.rm_base.proofs.Members.{first-or-rest, in-front, none-in}
-use Rattle.rm_base.proofs.Slots.{all-get}
-use Rattle.rm_history.specs.Agrees.{BaseAgrees, IsRow}
-use Rattle.rm_history.specs.Artefacts.{Base}
-use Rattle.rm_history.specs.State.{state}
-use Rattle.rm_history.proofs.Growth.{BaseAgrees-grown}
+use Rattle.rm_base.{specs.declared.block.{Change.{Change}, Row.{Row}}, proofs.{Members.{first-or-rest, in-front, none-in}, Slots.{all-get}}}
+use Rattle.rm_history.{specs.{Agrees.{BaseAgrees, IsRow}, Artefacts.{Base}, State.{state}}, proofs.Growth.{BaseAgrees-grown}}
 use Rattle.rm_history.proofs.Worlds.{BaseAgrees-with_end}
 use Rattle.rm_lang_statement.specs.declared.command.WriteForm.{WriteForm}
-use Rattle.rm_machine.specs.Damage.{has_block}
-use Rattle.rm_machine.specs.Machine.{HistoryFits}
-use Rattle.rm_machine.specs.Sound.{IsSound}
-use Rattle.rm_machine.specs.Write.{change_of, with_write}
-use Rattle.rm_machine.specs.declared.state.State.{State}
-use Rattle.rm_machine.specs.State.{current_of, now_of, world}
-use Rattle.rm_machine.proofs.Writes.{Accepted}
-use Rattle.rm_machine_laws.proofs.WritesKeep.{keeps-write}
+use Rattle.rm_machine.specs.{Damage.{has_block}, Machine.{HistoryFits}, Sound.{IsSound}, Write.{change_of, with_write}}
+use Rattle.rm_machine.{specs.{State.{current_of, now_of, world}, declared.state.State.{State}}, proofs.Writes.{Accepted}}
 use Rattle.rm_machine.proofs.Found.{IsReadOf, read-found}
+use Rattle.rm_machine_laws.proofs.WritesKeep.{keeps-write}
 
 module _ (u : State) (f b : ℕ) (r : Row) (sound : IsSound u) (opened : u.instance.is_open ≡ true) (is : IsReadOf u f b r) where
   -- and the state of its block now, where that is not damaged

@@ -1,25 +1,14 @@
 -- CREATE DATABASE, and other statements where there is no database.
 use Rattle.std.proofs.Common.{◌≡◌, ◌<◌, ◌≤◌, ◌^◌, ◌++◌, ◌∷◌, ◌&&◌, nat_lt, nat_le, ℕ, List, [], Some, None, Bool, true, false, cond, refl, ap, sym, subst, arith}
 use Rattle.std.proofs.lemmas.Bool.Decides.{nat_tests}
-use Rattle.rm_base.specs.Numbers.{last_moment, last_scn}
-use Rattle.rm_base.specs.Store.{Held}
-use Rattle.rm_base.specs.declared.refusal.Refusal.TheVariants.{Rm03, Rm11}
-use Rattle.rm_base.specs.declared.refusal.Limit.TheVariants.{Threads}
-use Rattle.rm_base.proofs.Members.{none-in}
-use Rattle.rm_lang_statement.specs.declared.command.Command.{Command}
-use Rattle.rm_lang_statement.specs.declared.command.Command.TheVariants.{CreateDatabase}
-use Rattle.rm_lang_statement.specs.IsCommand.{is_command}
-use Rattle.rm_report.specs.declared.line.Line.{Line}
-use Rattle.rm_report.specs.declared.line.Line.TheVariants.{DatabaseAt}
+use Rattle.rm_base.specs.{Numbers.{last_moment, last_scn}, Store.{Held}, declared.refusal.Refusal.TheVariants.{Rm03, Rm11}}
+use Rattle.rm_base.{specs.declared.refusal.Limit.TheVariants.{Threads}, proofs.Members.{none-in}}
+use Rattle.rm_lang_statement.specs.{IsCommand.{is_command}, declared.command.Command.{Command, TheVariants.{CreateDatabase}}}
+use Rattle.rm_report.specs.declared.line.Line.{Line, TheVariants.{DatabaseAt}}
 use Rattle.rm_machine.specs.CreateDatabase.{IsCreateOutcome, fresh_machine, fresh_state}
-use Rattle.rm_machine.specs.Effect.{Effect, LeavesObjects, done, no_effect, refused}
-use Rattle.rm_machine.specs.Laws.{LeadsOn}
-use Rattle.rm_machine.specs.Machine.{IsBorneOut, IsSoundBy, IsSoundMachine, Machine}
-use Rattle.rm_machine.specs.declared.state.State.{State}
-use Rattle.rm_machine_laws.proofs.Creating.{fresh-sound}
-use Rattle.rm_machine.specs.Step.{and_drops}
-use Rattle.rm_machine_laws.specs.Carries.{LeadsOnWithout}
-use Rattle.rm_machine_laws.specs.Loose.{StaysLoose}
+use Rattle.rm_machine.specs.{Effect.{Effect, LeavesObjects, done, no_effect, refused}, Laws.{LeadsOn}}
+use Rattle.rm_machine.specs.{Machine.{IsBorneOut, IsSoundBy, IsSoundMachine, Machine}, Step.{and_drops}, declared.state.State.{State}}
+use Rattle.rm_machine_laws.{specs.{Carries.{LeadsOnWithout}, Loose.{StaysLoose}}, proofs.Creating.{fresh-sound}}
 
 -- the numbers of a new database, which the grammar and the refusal leave
 pub record AreNumbers (dbid threads scn : ℕ) : Type 0 where

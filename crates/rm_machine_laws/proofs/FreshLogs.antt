@@ -1,18 +1,13 @@
 -- Logs that begin anew, of the threads that are enabled.
-use Rattle.std.proofs.Common.{◌≡◌, ◌<◌, ◌≤◌, ◌-◌, ◌^◌, ℕ, zero, suc, List, [], ◌∷◌, Some, Bool, true, false, ap, sym, subst, refl, arith, length, map, slice_get, All, AllPairs}
 use Rattle.std.specs.Option.{option_map_or}
+use Rattle.std.proofs.Common.{◌≡◌, ◌<◌, ◌≤◌, ◌-◌, ◌^◌, ℕ, zero, suc, List, [], ◌∷◌, Some, Bool, true, false, ap, sym, subst, refl, arith, length, map, slice_get, All, AllPairs}
 use Rattle.std.proofs.lemmas.List.Elements.{All-nil}
 use Rattle.rm_base.specs.Numbers.{last_scn}
-use Rattle.rm_history.specs.declared.tree.Incarnation.{Incarnation}
-use Rattle.rm_history.specs.Tree.{reset_of}
-use Rattle.rm_redo.specs.declared.log_file.LogFile.{LogFile}
+use Rattle.rm_history.specs.{Tree.{reset_of}, declared.tree.Incarnation.{Incarnation}}
+use Rattle.rm_redo.specs.{LogFile.{log_file_of}, LogFormat.{IsLogRecord}, Logs.{IsBefore, Logs}}
+use Rattle.rm_redo.specs.{Online.{IsThread, begun_logs, fresh_log, log_where}, declared.log_file.LogFile.{LogFile}}
 use Rattle.rm_redo.specs.declared.online.ThreadLog.{ThreadLog}
-use Rattle.rm_redo.specs.LogFile.{log_file_of}
-use Rattle.rm_redo.specs.LogFormat.{IsLogRecord}
-use Rattle.rm_redo.specs.Logs.{IsBefore, Logs}
-use Rattle.rm_redo.specs.Online.{IsThread, begun_logs, fresh_log, log_where}
-use Rattle.rm_machine.specs.Sound.{IsOnline}
-use Rattle.rm_machine.specs.State.{is_lost}
+use Rattle.rm_machine.specs.{Sound.{IsOnline}, State.{is_lost}}
 
 -- what stands at the place of a thread that is there, of logs of the threads that are enabled
 pub where-get : (l : ThreadLog) (enabled : List Bool) (k : ℕ)

@@ -3,28 +3,16 @@ use Rattle.std.proofs.Common.{◌≡◌, ◌<◌, ◌≤◌, ◌+◌, ◌∙◌,
 use Rattle.std.proofs.lemmas.List.Elements.{All-weaker}
 use Rattle.rm_base.specs.declared.block.Change.{Change}
 use Rattle.rm_blocks.specs.File.{File}
-use Rattle.rm_history.specs.declared.tree.Incarnation.{Incarnation}
-use Rattle.rm_history.specs.State.{state}
-use Rattle.rm_history.specs.Threads.{IsEnabled}
-use Rattle.rm_history.specs.Tree.{IsThere, end_of, owner, reset_of}
-use Rattle.rm_history.proofs.Below.{Further, agrees-further, below-risen, state-end}
-use Rattle.rm_history.proofs.Histories.{IsHistory-with_end, state-with_end}
-use Rattle.rm_history.proofs.Owners.{owner-here}
+use Rattle.rm_history.specs.{State.{state}, Threads.{IsEnabled}, Tree.{IsThere, end_of, owner, reset_of}}
+use Rattle.rm_history.{specs.declared.tree.Incarnation.{Incarnation}, proofs.Below.{Further, agrees-further, below-risen, state-end}}
+use Rattle.rm_history.proofs.{Histories.{IsHistory-with_end, state-with_end}, Owners.{owner-here}}
 use Rattle.rm_history.proofs.Worlds.{BaseAgrees-with_end, Level1Agrees-with_end}
-use Rattle.rm_catalog_typed.proofs.Trees.{Keeps, parents_below}
-use Rattle.rm_catalog_typed.specs.Switches.{is_enabled_in}
-use Rattle.rm_redo.specs.LogFile.{log_of}
-use Rattle.rm_redo.specs.Online.{IsThread}
-use Rattle.rm_machine.specs.Damage.{has_block}
-use Rattle.rm_machine.specs.Machine.{HistoryFits, SoundRowsAre}
-use Rattle.rm_machine.specs.Sound.{IsSound}
-use Rattle.rm_machine.specs.declared.state.State.{State}
-use Rattle.rm_machine.specs.State.{ledger, world, now_of, redo_end, placed, online}
-use Rattle.rm_machine_laws.proofs.Bitmaps.{tell-later}
-use Rattle.rm_machine_laws.proofs.Grown.{SameHistory}
-use Rattle.rm_machine_laws.proofs.DamagedRows.{sound-agrees}
-use Rattle.rm_machine.proofs.Further.{GoesOn, inc-now}
-use Rattle.rm_machine.proofs.Further as shared
+use Rattle.rm_catalog_typed.{specs.Switches.{is_enabled_in}, proofs.Trees.{Keeps, parents_below}}
+use Rattle.rm_redo.specs.{LogFile.{log_of}, Online.{IsThread}}
+use Rattle.rm_machine.specs.{Damage.{has_block}, Machine.{HistoryFits, SoundRowsAre}, Sound.{IsSound}}
+use Rattle.rm_machine.specs.{State.{ledger, world, now_of, redo_end, placed, online}, declared.state.State.{State}}
+use Rattle.rm_machine.proofs.{Further as shared, Further.{GoesOn, inc-now}}
+use Rattle.rm_machine_laws.proofs.{Bitmaps.{tell-later}, Grown.{SameHistory}, DamagedRows.{sound-agrees}}
 
 -- each change lies below the end up to which the logs of its incarnation tell
 pub below-redo : (s : State) (h : List Change) → All (λ c. c.scn < end_of s.catalog.ledger.tree c.inc) h → All (λ c. c.inc ≡ s.instance.logs.inc → c.scn < redo_end s) h

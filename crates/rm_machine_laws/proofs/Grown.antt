@@ -1,16 +1,10 @@
 -- What was ever recorded stays true where the database grows by an incarnation or by a datafile.
 use Rattle.std.proofs.Common.{◌≤◌, List, arith, get_or, length}
-use Rattle.rm_base.specs.declared.block.Change.{Change}
-use Rattle.rm_base.specs.declared.kinds.Kind.{Kind}
-use Rattle.rm_base.specs.declared.kinds.Kind.TheVariants.{Full, Level0, Level1, Place}
+use Rattle.rm_base.specs.declared.{block.Change.{Change}, kinds.Kind.{Kind, TheVariants.{Full, Level0, Level1, Place}}}
+use Rattle.rm_history.specs.{Agrees.{BaseAgrees, Level1Agrees}, Artefacts.{Base, Level1 as Increment}, Tree.{IsThere}}
 use Rattle.rm_history.specs.declared.world.World.{World}
-use Rattle.rm_history.specs.Agrees.{BaseAgrees, Level1Agrees}
-use Rattle.rm_history.specs.Artefacts.{Base, Level1 as Increment}
-use Rattle.rm_history.specs.Tree.{IsThere}
 use Rattle.rm_catalog_typed.proofs.Trees.{Keeps}
-use Rattle.rm_piece.specs.declared.piece.Piece.{Piece}
-use Rattle.rm_piece.specs.declared.set.SetFile.{SetFile}
-use Rattle.rm_piece.specs.Artefacts as piece
+use Rattle.rm_piece.specs.{Artefacts as piece, declared.{piece.Piece.{Piece}, set.SetFile.{SetFile}}}
 use Rattle.rm_machine.specs.Effect.{Artefact, a_log, a_piece, a_set}
 use Rattle.rm_machine.specs.Machine.{ArtefactAgrees, EndsWithin, IsOfDatafile, IsTrueArtefact, PieceAgrees, PieceEndsWithin}
 

@@ -1,42 +1,24 @@
 -- What a stop leaves, wherever it came.
 use Rattle.std.proofs.Common.{◌≡◌, ◌∙◌, ◌++◌, ◌⊎◌, inl, inr, ℕ, List, Option, Some, None, IsSomeAnd, true, false, refl, ap, sym, subst, arith, Contains}
-use Rattle.std.proofs.lemmas.Bool.{cases_Bool}
-use Rattle.std.proofs.lemmas.List.Elements.{Contains-append_left, Contains-append_right}
-use Rattle.rm_base.specs.Store.{Held}
-use Rattle.rm_base.specs.declared.block.Change.{Change as BlockChange}
-use Rattle.rm_catalog.specs.declared.record.PartEntry.{PartEntry}
-use Rattle.rm_catalog.specs.declared.record.Record.{Record}
-use Rattle.rm_commit.specs.declared.commit.Commit.{Commit}
+use Rattle.std.proofs.lemmas.{Bool.{cases_Bool}, List.Elements.{Contains-append_left, Contains-append_right}}
+use Rattle.rm_base.specs.{Store.{Held}, declared.block.Change.{Change as BlockChange}}
+use Rattle.rm_catalog.specs.declared.record.{PartEntry.{PartEntry}, Record.{Record}}
 use Rattle.rm_commit.specs.Carrying.{ArePut, Halted, after_the_edits, before_the_edits}
-use Rattle.rm_commit.specs.Names.{SameBeyondPuts, after_all, is_named, itself, name_of, nothing}
-use Rattle.rm_commit.proofs.Named.{unnamed-stays}
-use Rattle.rm_commit.proofs.Told.{both-told}
+use Rattle.rm_commit.specs.{Names.{SameBeyondPuts, after_all, is_named, itself, name_of, nothing}, declared.commit.Commit.{Commit}}
+use Rattle.rm_commit.proofs.{Named.{unnamed-stays}, Told.{both-told}}
 use Rattle.rm_lang_statement.specs.declared.command.Command.{Command}
-use Rattle.rm_report.specs.Reply.{said}
-use Rattle.rm_report.specs.declared.line.Line.{Line}
-use Rattle.rm_report.specs.declared.line.Reply.{Reply}
-use Rattle.rm_evidence.specs.Names.{roll_name, site_name}
-use Rattle.rm_evidence.proofs.Names.{roll-no-site}
+use Rattle.rm_report.specs.{Reply.{said}, declared.line.{Line.{Line}, Reply.{Reply}}}
+use Rattle.rm_evidence.{specs.Names.{roll_name, site_name}, proofs.Names.{roll-no-site}}
 use Rattle.rm_catalog_typed.specs.TypedCatalog.{Saved}
-use Rattle.rm_machine.specs.Effect.{Artefact, Made}
-use Rattle.rm_machine.specs.Laws.{LeadsOn, StaysSound}
+use Rattle.rm_machine.specs.{Effect.{Artefact, Made}, Laws.{LeadsOn, StaysSound}}
 use Rattle.rm_machine.specs.Machine.{HoldsUnder, IsBorneOut, IsSoundBy, IsSoundMachine, Machine}
-use Rattle.rm_machine.specs.Rest.{HaveParts, IsSoundRestBy, Rest, at_rest, catalog_in}
-use Rattle.rm_machine.specs.Saved.{spelling_of}
-use Rattle.rm_machine.specs.declared.state.State.{State}
-use Rattle.rm_machine.specs.State.{ledger}
-use Rattle.rm_machine.specs.Step.{IsStatement, Step, names_in}
-use Rattle.rm_machine.proofs.Dropping.{IsNoSite, no-site}
-use Rattle.rm_machine_laws.proofs.Dropping.{named-first}
-use Rattle.rm_machine.proofs.Kept.{StandOn}
-use Rattle.rm_machine.proofs.Later.{borne-beside}
-use Rattle.rm_machine_laws.specs.Carries.{IsHanded}
-use Rattle.rm_machine_laws.specs.Holds.{Holds, HoldsRest, records, saved_in}
+use Rattle.rm_machine.specs.{Rest.{HaveParts, IsSoundRestBy, Rest, at_rest, catalog_in}, Saved.{spelling_of}, State.{ledger}}
+use Rattle.rm_machine.{specs.{Step.{IsStatement, Step, names_in}, declared.state.State.{State}}, proofs.Dropping.{IsNoSite, no-site}}
+use Rattle.rm_machine.proofs.{Kept.{StandOn}, Later.{borne-beside}}
+use Rattle.rm_machine_laws.specs.{Carries.{IsHanded}, Holds.{Holds, HoldsRest, records, saved_in}}
 use Rattle.rm_machine_laws.specs.Loose.{IsLoose, IsLowIn, IsNamedBy, IsNamedIn, StaysLoose, is_roll, of_object, of_part}
-use Rattle.rm_machine_laws.specs.Moments.{IsMomentIn, moment_of}
-use Rattle.rm_machine_laws.specs.Stopped.{IsLeft, Stopped, StopsAt}
-use Rattle.rm_machine_laws.proofs.Carried.{edited, finished, no-parts}
-use Rattle.rm_machine_laws.proofs.Loosening.{loose-from}
+use Rattle.rm_machine_laws.{specs.{Moments.{IsMomentIn, moment_of}, Stopped.{IsLeft, Stopped, StopsAt}}, proofs.Dropping.{named-first}}
+use Rattle.rm_machine_laws.proofs.{Carried.{edited, finished, no-parts}, Loosening.{loose-from}}
 use Rattle.rm_machine_laws.proofs.LowNames.{StayRolls, StaysLow, low-put, low-removed, step-low}
 
 -- under each name of a record stands what stood there, but for those that were given

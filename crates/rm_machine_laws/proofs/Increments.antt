@@ -1,39 +1,21 @@
 -- What an increment for a standby holds: the states at `now` of the datafiles of the current path, those at or above its SCN.
 use Rattle.std.proofs.Common.{◌≡◌, ◌+◌, ◌-◌, ◌∙◌, ℕ, zero, suc, List, [], ◌∷◌, Some, Bool, true, false, cond, refl, ap, sym, subst, arith, map, slice_get, Contains}
-use Rattle.std.proofs.lemmas.Bool.{and_from}
-use Rattle.std.proofs.lemmas.List.Elements.{All-contains, All-contains_itself, All-map}
-use Rattle.rm_base.proofs.Lists.{map_from, map_to}
-use Rattle.rm_base.proofs.Members.{behind, in-front}
+use Rattle.std.proofs.lemmas.{Bool.{and_from}, List.Elements.{All-contains, All-contains_itself, All-map}}
+use Rattle.rm_base.{specs.declared.block.{Change.{Change}, Row.{Row}}, proofs.{Lists.{map_from, map_to}, Members.{behind, in-front}}}
 use Rattle.rm_base.proofs.Slots.{all-get}
-use Rattle.rm_base.specs.declared.block.Change.{Change}
-use Rattle.rm_base.specs.declared.block.Row.{Row}
 use Rattle.rm_apply.proofs.States.{rows-are}
 use Rattle.rm_blocks.specs.File.{File}
-use Rattle.rm_history.specs.State.{state, states}
-use Rattle.rm_history.specs.World.{creation_of, exists, file_of}
-use Rattle.rm_history.specs.declared.world.Datafile.{Datafile}
-use Rattle.rm_history.specs.declared.world.World.{World}
-use Rattle.rm_history.proofs.Worlds.{file-there}
-use Rattle.rm_piece.specs.Filling.{risen}
-use Rattle.rm_piece.specs.Rows.{from_on}
-use Rattle.rm_piece.specs.declared.set.SetFile.{SetFile}
-use Rattle.rm_piece.proofs.Risen.{states-same}
+use Rattle.rm_history.specs.{State.{state, states}, World.{creation_of, exists, file_of}, declared.world.Datafile.{Datafile}}
+use Rattle.rm_history.{specs.declared.world.World.{World}, proofs.Worlds.{file-there}}
+use Rattle.rm_piece.{specs.{Filling.{risen}, Rows.{from_on}, declared.set.SetFile.{SetFile}}, proofs.Risen.{states-same}}
 use Rattle.rm_standby.specs.Standby.{HoldsSince, IsTaken as IsHeld}
 use Rattle.rm_lang_statement.specs.declared.command.BackupForm.{BackupForm}
-use Rattle.rm_machine.specs.Backup.{is_taken, rows_in, taken_from}
-use Rattle.rm_machine.specs.Damage.{has_file}
-use Rattle.rm_machine.specs.Machine.{HistoryFits, RowsAre}
-use Rattle.rm_machine.specs.Roll.{increment, of_all, roll_member, rolled_files}
-use Rattle.rm_machine.specs.Sound.{IsSound}
-use Rattle.rm_machine.specs.declared.state.State.{State}
-use Rattle.rm_machine.specs.State.{current_of, ledger, now_of, world}
-use Rattle.rm_machine.proofs.Backups.{IsTaken}
-use Rattle.rm_machine.proofs.MembersRead.{creation-by}
-use Rattle.rm_machine.proofs.Numbers.{file-at}
-use Rattle.rm_machine.proofs.PiecesRead.{blocks-by}
+use Rattle.rm_machine.specs.{Backup.{is_taken, rows_in, taken_from}, Damage.{has_file}, Machine.{HistoryFits, RowsAre}}
+use Rattle.rm_machine.specs.{Roll.{increment, of_all, roll_member, rolled_files}, Sound.{IsSound}}
+use Rattle.rm_machine.{specs.{State.{current_of, ledger, now_of, world}, declared.state.State.{State}}, proofs.Backups.{IsTaken}}
+use Rattle.rm_machine.proofs.{MembersRead.{creation-by}, Numbers.{file-at}, PiecesRead.{blocks-by}}
 use Rattle.rm_machine.proofs.Rolling.{CanRoll, file-number, block-at, rows-many, rows-placed}
-use Rattle.rm_machine_laws.proofs.BackingUp.{taken-clean}
-use Rattle.rm_machine_laws.proofs.DamagedRows.{none-damaged}
+use Rattle.rm_machine_laws.proofs.{BackingUp.{taken-clean}, DamagedRows.{none-damaged}}
 
 -- a datafile that is taken is one of those that are backed up
 front-by : (t : Bool) (f n : ℕ) (rest : List ℕ) → t ≡ true → f ≡ n → Contains (cond t (f ∷ rest) rest) n

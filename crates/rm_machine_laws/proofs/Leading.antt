@@ -1,24 +1,14 @@
 -- From what stands after a statement to the machine after it.
 use Rattle.std.proofs.Common.{◌≡◌, ◌++◌, ℕ, List, Option, Some, None, refl, sym, subst}
-use Rattle.rm_base.specs.Store.{Held}
-use Rattle.rm_base.specs.declared.block.Change.{Change}
-use Rattle.rm_base.specs.declared.refusal.Refusal.{Refusal}
-use Rattle.rm_machine.specs.Effect.{Effect, LeavesObjects, Made, done, told}
-use Rattle.rm_lang_statement.specs.declared.command.Command.{Command}
-use Rattle.rm_lang_statement.specs.declared.command.Command.TheVariants.{BackupFrom, BlockRecover, DeleteObsolete, Recover}
-use Rattle.rm_report.specs.declared.line.Line.{Line}
-use Rattle.rm_machine.specs.Honest.{IsHonest}
-use Rattle.rm_machine.specs.Laws.{LeadsOn, StaysSound, TellsOn}
-use Rattle.rm_machine.specs.Machine.{Machine, IsSoundBy, IsBorneOut, DigestsTellFor, TellBy}
-use Rattle.rm_machine.specs.Sound.{IsSound}
-use Rattle.rm_machine.specs.declared.state.State.{State}
-use Rattle.rm_machine.specs.State.{ledger, at_moment}
+use Rattle.rm_base.specs.{Store.{Held}, declared.{block.Change.{Change}, refusal.Refusal.{Refusal}}}
+use Rattle.rm_machine.specs.{Effect.{Effect, LeavesObjects, Made, done, told}, Honest.{IsHonest}, Laws.{LeadsOn, StaysSound, TellsOn}}
+use Rattle.rm_machine.specs.{Machine.{Machine, IsSoundBy, IsBorneOut, DigestsTellFor, TellBy}, Sound.{IsSound}, State.{ledger, at_moment}}
 use Rattle.rm_machine.specs.Step.{IsStatement, IsDone, IsOutcome, IsOutcomeBy, Means, and_drops, names_in, refusal_of}
-use Rattle.rm_machine_laws.proofs.Beside.{safe-beside}
-use Rattle.rm_machine.proofs.Dropping.{IsNoSite}
-use Rattle.rm_machine_laws.proofs.Dropping.{leaves-first, left_by, stand-beyond, stays-beyond}
-use Rattle.rm_machine.proofs.Kept.{stand-same}
+use Rattle.rm_machine.{specs.declared.state.State.{State}, proofs.{Dropping.{IsNoSite}, Kept.{stand-same}}}
 use Rattle.rm_machine.proofs.Later.{borne-beside, borne-later, sound-later}
+use Rattle.rm_lang_statement.specs.declared.command.Command.{Command, TheVariants.{BackupFrom, BlockRecover, DeleteObsolete, Recover}}
+use Rattle.rm_report.specs.declared.line.Line.{Line}
+use Rattle.rm_machine_laws.proofs.{Beside.{safe-beside}, Dropping.{leaves-first, left_by, stand-beyond, stays-beyond}}
 
 -- what was done was not refused
 pub done-by : (r : Option Refusal) (s : State) (held : Held) (c : Command) (said : List Line) (e : Effect) (t : State)

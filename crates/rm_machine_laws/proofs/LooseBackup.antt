@@ -2,24 +2,15 @@
 use Rattle.std.proofs.Common.{◌≡◌, ◌≤◌, ◌+◌, ◌∷◌, ℕ, List, [], Some, length, map, refl, ap, subst, arith}
 use Rattle.std.proofs.lemmas.List.Elements.{All-cons, All-nil}
 use Rattle.rm_commit.specs.declared.commit.Object.{Object}
-use Rattle.rm_lang_statement.specs.declared.command.BackupForm.{BackupForm}
+use Rattle.rm_lang_statement.specs.declared.command.{BackupForm.{BackupForm}, Command.TheVariants.{Backup, BackupLogs}}
 use Rattle.rm_redo.specs.declared.log_file.LogFile.{LogFile}
-use Rattle.rm_lang_statement.specs.declared.command.Command.TheVariants.{Backup, BackupLogs}
 use Rattle.rm_catalog.specs.declared.record.BaseEntry.{BaseEntry}
-use Rattle.rm_machine.specs.BackupOutcome.{at_end, effect_of}
-use Rattle.rm_machine.specs.BackupLogs.{copies_of, copies_refusal, copy_object, copying, numbered_from}
-use Rattle.rm_machine.specs.Sound.{IsSound}
-use Rattle.rm_machine.specs.MadeObjects.{Packed, after_object, alone, in_set, object_put, objects_put, packed}
-use Rattle.rm_machine.specs.declared.state.State.{State}
-use Rattle.rm_machine.specs.State.{ledger, now_of}
-use Rattle.rm_machine.specs.Step.{refusal_of}
-use Rattle.rm_machine.proofs.BackingUp.{base-at_end, objects-many}
-use Rattle.rm_machine.proofs.BackupAccepted.{can-back_up}
-use Rattle.rm_machine.proofs.Recording.{next-id}
+use Rattle.rm_machine.specs.{BackupOutcome.{at_end, effect_of}, BackupLogs.{copies_of, copies_refusal, copy_object, copying, numbered_from}}
+use Rattle.rm_machine.specs.{Sound.{IsSound}, MadeObjects.{Packed, after_object, alone, in_set, object_put, objects_put, packed}}
+use Rattle.rm_machine.specs.{State.{ledger, now_of}, Step.{refusal_of}, declared.state.State.{State}}
+use Rattle.rm_machine.proofs.{BackingUp.{base-at_end, objects-many}, BackupAccepted.{can-back_up}, Recording.{next-id}}
 use Rattle.rm_machine.proofs.BackingUpLogs.{after_copies, room-for}
-use Rattle.rm_machine_laws.proofs.BackingUpLogs.{done-of}
-use Rattle.rm_machine_laws.proofs.Leading.{done-by}
-use Rattle.rm_machine_laws.specs.Loose.{IsLoose, StaysLoose}
+use Rattle.rm_machine_laws.{specs.Loose.{IsLoose, StaysLoose}, proofs.{BackingUpLogs.{done-of}, Leading.{done-by}}}
 use Rattle.rm_machine_laws.proofs.LooseNew.{AreNew, IsFree, IsNewName, new-log, new-loose, new-piece, new-set}
 
 object-new : (first s : State) (x : Packed) → IsSound first → IsFree first (ledger s).base.next_id → IsNewName first (object_put s x).name

@@ -1,19 +1,10 @@
 -- RECOVER COPY puts names of new ids alone, and takes away those of the records that go.
-use Rattle.std.proofs.Common.{◌≡◌, ℕ, List, Option, true, subst}
-use Rattle.std.proofs.lemmas.List.Elements.{All-weaker}
-use Rattle.rm_commit.specs.declared.commit.Object.{Object}
-use Rattle.rm_commit.specs.Names.{is_named, itself}
-use Rattle.rm_lang_statement.specs.declared.command.Command.TheVariants.{RecoverCopy}
-use Rattle.rm_lang_statement.specs.declared.command.Until.{Until}
-use Rattle.rm_machine.specs.Effect.{Effect}
-use Rattle.rm_machine.specs.Recover.{recover_target}
-use Rattle.rm_machine.specs.declared.state.State.{State}
-use Rattle.rm_machine.specs.Step.{refusal_of}
-use Rattle.rm_machine_laws.proofs.Deleting.{named-in}
-use Rattle.rm_machine_laws.proofs.Leading.{done-by}
-use Rattle.rm_machine_laws.proofs.OldCopies.{IsNewCopy}
-use Rattle.rm_machine_laws.proofs.Renewals.{LeavesRenewed, leaves-renewed}
-use Rattle.rm_machine_laws.specs.Loose.{IsNamedBy, StaysLoose, of_object, of_part}
+use Rattle.std.proofs.{Common.{◌≡◌, ℕ, List, Option, true, subst}, lemmas.List.Elements.{All-weaker}}
+use Rattle.rm_commit.specs.{Names.{is_named, itself}, declared.commit.Object.{Object}}
+use Rattle.rm_lang_statement.specs.declared.command.{Command.TheVariants.{RecoverCopy}, Until.{Until}}
+use Rattle.rm_machine.specs.{Effect.{Effect}, Recover.{recover_target}, Step.{refusal_of}, declared.state.State.{State}}
+use Rattle.rm_machine_laws.{specs.Loose.{IsNamedBy, StaysLoose, of_object, of_part}, proofs.{Deleting.{named-in}, Leading.{done-by}}}
+use Rattle.rm_machine_laws.proofs.{OldCopies.{IsNewCopy}, Renewals.{LeavesRenewed, leaves-renewed}}
 use Rattle.rm_machine_laws.proofs.LooseNew.{IsNewName, loose-by, new-piece}
 
 left-free : (s : State) (e : Effect) (t : State) → LeavesRenewed s e t → (name : List ℕ) → IsNamedBy t name → ¬ (is_named itself e.removes name ≡ true)

@@ -1,18 +1,14 @@
 -- HOST REMOVE, DAMAGE, CUT and RENAME touch no name but those that they give.
-use Rattle.std.proofs.Common.{◌≡◌, ◌∙◌, ◌||◌, inl, inr, ℕ, List, [], ◌∷◌, Some, true, false, ap, sym, subst, Contains}
 use Rattle.std.specs.Str.{bytes_eq}
-use Rattle.std.proofs.lemmas.Bool.{cases_Bool, false≢true}
-use Rattle.std.proofs.lemmas.List.Elements.{Contains-append_left}
+use Rattle.std.proofs.Common.{◌≡◌, ◌∙◌, ◌||◌, inl, inr, ℕ, List, [], ◌∷◌, Some, true, false, ap, sym, subst, Contains}
+use Rattle.std.proofs.lemmas.{Bool.{cases_Bool, false≢true}, List.Elements.{Contains-append_left}}
 use Rattle.rm_base.proofs.Members.{behind, in-front}
 use Rattle.rm_commit.proofs.Named.{same-name}
 use Rattle.rm_lang_statement.specs.declared.command.Command.TheVariants.{Cut, Damage, Remove, Rename}
 use Rattle.rm_evidence.specs.Names.{roll_name, site_name}
-use Rattle.rm_machine.specs.Mishaps.{removal, renaming, replacement}
-use Rattle.rm_machine.specs.declared.state.State.{State}
-use Rattle.rm_machine.specs.Step.{refusal_of}
-use Rattle.rm_machine_laws.proofs.Mishaps.{cut-by, damaged-by, removed-by, renamed-by}
+use Rattle.rm_machine.specs.{Mishaps.{removal, renaming, replacement}, Step.{refusal_of}, declared.state.State.{State}}
+use Rattle.rm_machine_laws.{specs.Loose.{IsLoose, StaysLoose}, proofs.Mishaps.{cut-by, damaged-by, removed-by, renamed-by}}
 use Rattle.rm_machine_laws.proofs.Leading.{done-by}
-use Rattle.rm_machine_laws.specs.Loose.{IsLoose, StaysLoose}
 
 -- a name that is this one
 one-named : (n name : List ℕ) → (bytes_eq n name || false) ≡ true → Contains (name ∷ []) n

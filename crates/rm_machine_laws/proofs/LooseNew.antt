@@ -1,32 +1,22 @@
 -- New objects bear no name of a record.
-use Rattle.std.proofs.Common.{◌≡◌, ◌≢◌, ◌<◌, ◌≤◌, ◌+◌, ◌^◌, ◌∙◌, ◌∷◌, ℕ, zero, suc, List, [], Option, Some, None, Bool, true, false, cond, refl, ap, sym, subst, arith, All}
 use Rattle.std.specs.Prelude.{IsSomeAnd}
+use Rattle.std.proofs.Common.{◌≡◌, ◌≢◌, ◌<◌, ◌≤◌, ◌+◌, ◌^◌, ◌∙◌, ◌∷◌, ℕ, zero, suc, List, [], Option, Some, None, Bool, true, false, cond, refl, ap, sym, subst, arith, All}
 use Rattle.std.proofs.lemmas.List.Elements.{All-append, All-cons, All-nil}
-use Rattle.rm_commit.specs.declared.commit.Object.{Object}
-use Rattle.rm_commit.specs.Names.{is_named, itself, name_of}
-use Rattle.rm_commit.proofs.Standing.{unnamed}
+use Rattle.rm_commit.{specs.{Names.{is_named, itself, name_of}, declared.commit.Object.{Object}}, proofs.Standing.{unnamed}}
 use Rattle.rm_lang_statement.specs.declared.command.Command.{Command}
 use Rattle.rm_lang_statement.specs.declared.command.Command.TheVariants.{ArchiveLogCurrent, OpenResetlogs, SwitchLogfile, SwitchThread}
 use Rattle.rm_evidence.specs.Names.{log_name, piece_name, roll_name, set_name, site_name}
 use Rattle.rm_evidence.proofs.Names.{log-name-tells, log-no-piece, log-no-roll, log-no-set, log-no-site, piece-name-tells, piece-no-roll, piece-no-set, piece-no-site, set-name-tells, set-no-roll, set-no-site}
 use Rattle.rm_redo.specs.LogFormat.{spelling}
 use Rattle.rm_report.specs.declared.line.Line.{Line}
-use Rattle.rm_machine.specs.Archive.{after_all, after_thread, archiving, puts_from}
-use Rattle.rm_machine.specs.DisableThread.{disabling}
-use Rattle.rm_machine.specs.Effect.{Effect, done, no_effect}
-use Rattle.rm_machine.specs.OpenResetlogs.{branched_off, resetlogs_lines}
-use Rattle.rm_machine.specs.Sound.{IsSound}
-use Rattle.rm_machine.specs.declared.state.State.{State}
-use Rattle.rm_machine.specs.State.{ledger, online}
-use Rattle.rm_machine.specs.SwitchLogfile.{archived, is_due, made_lines, none_lines, with_archived}
-use Rattle.rm_machine.proofs.Archives.{HasRoom, Took, next-room, took-thread}
-use Rattle.rm_machine_laws.proofs.ArchivingAll.{room}
-use Rattle.rm_machine.proofs.Branching.{can-reset}
+use Rattle.rm_machine.specs.{Archive.{after_all, after_thread, archiving, puts_from}, DisableThread.{disabling}}
+use Rattle.rm_machine.specs.{Effect.{Effect, done, no_effect}, OpenResetlogs.{branched_off, resetlogs_lines}, Sound.{IsSound}}
+use Rattle.rm_machine.specs.{State.{ledger, online}, SwitchLogfile.{archived, is_due, made_lines, none_lines, with_archived}}
+use Rattle.rm_machine.{specs.declared.state.State.{State}, proofs.{Archives.{HasRoom, Took, next-room, took-thread}, Branching.{can-reset}}}
 use Rattle.rm_machine.proofs.Disabling.{accepted}
-use Rattle.rm_machine_laws.proofs.NewObjects.{log-apart, piece-apart, set-apart}
-use Rattle.rm_machine_laws.proofs.Switching.{CanSwitch, can-archive, can-switch}
 use Rattle.rm_machine_laws.specs.Loose.{IsLoose, IsLowIn, IsNamedBy, IsOfId, StaysLoose, is_log, is_piece, is_roll, is_set, of_object, of_part}
-use Rattle.rm_machine_laws.proofs.LooseQuiet.{loose-done, quiet-loose}
+use Rattle.rm_machine_laws.proofs.{ArchivingAll.{room}, NewObjects.{log-apart, piece-apart, set-apart}}
+use Rattle.rm_machine_laws.proofs.{Switching.{CanSwitch, can-archive, can-switch}, LooseQuiet.{loose-done, quiet-loose}}
 
 -- no record of the database names it, its id is none that was given, and it is no name of a part of a saved site
 pub record IsNewName (s : State) (new : List ℕ) : Type 0 where

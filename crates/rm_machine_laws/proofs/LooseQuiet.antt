@@ -3,36 +3,17 @@ use Rattle.std.proofs.Common.{◌≡◌, ◌⊎◌, ℕ, List, [], Option, Some,
 use Rattle.rm_base.specs.Store.{Held}
 use Rattle.rm_lang_statement.specs.declared.command.Command.{Command}
 use Rattle.rm_lang_statement.specs.declared.command.Command.TheVariants.{BlockRecover, Corrupt, CreateDatafile, LoseDatafile, LoseLog, Mount, OpenPlain, Parallelism, Recover, ResetDatabase, Restore, Retention, SwitchThread, Tracking, Write}
-use Rattle.rm_evidence.specs.declared.evidence.Evidence.{Evidence}
-use Rattle.rm_lang_statement.specs.declared.command.RepairForm.{RepairForm}
-use Rattle.rm_lang_statement.specs.declared.command.RetentionForm.{RetentionForm}
-use Rattle.rm_lang_statement.specs.declared.command.Until.{Until}
+use Rattle.rm_lang_statement.specs.declared.command.{RepairForm.{RepairForm}, RetentionForm.{RetentionForm}, Until.{Until}}
 use Rattle.rm_lang_statement.specs.declared.command.WriteForm.{WriteForm}
+use Rattle.rm_evidence.specs.declared.evidence.Evidence.{Evidence}
 use Rattle.rm_report.specs.declared.line.Line.{Line}
-use Rattle.rm_machine.specs.Configure.{policy_of, with_channels, with_policy}
-use Rattle.rm_machine.specs.BlockRecover.{MendsBlocks, MissesBlock}
-use Rattle.rm_machine.specs.Corrupt.{corrupted}
-use Rattle.rm_machine.specs.Effect.{Effect, done, no_effect}
-use Rattle.rm_machine.specs.EnableThread.{with_thread_on}
-use Rattle.rm_machine.specs.Laws.{only_tells}
-use Rattle.rm_machine.specs.LoseDatafile.{without_file}
-use Rattle.rm_machine.specs.LoseLog.{without_log}
-use Rattle.rm_machine.specs.Mount.{as_mounted}
-use Rattle.rm_machine.specs.Open.{opened}
-use Rattle.rm_machine.specs.ResetDatabase.{at_incarnation}
-use Rattle.rm_machine.specs.declared.state.State.{State}
-use Rattle.rm_machine.specs.State.{now_of}
-use Rattle.rm_machine.specs.CreateDatafile.{with_datafile}
-use Rattle.rm_machine.specs.Recover.{RecoversTo, recover_target, recovered}
-use Rattle.rm_machine.specs.Restore.{RestoresTo, restored}
-use Rattle.rm_machine.specs.Step.{IsDone, refusal_of}
-use Rattle.rm_machine.specs.Tracking.{with_tracking}
-use Rattle.rm_machine.specs.Upkeep.{with_catalog}
-use Rattle.rm_machine_laws.proofs.Leading.{done-by}
-use Rattle.rm_machine_laws.proofs.Telling.{never-done}
-use Rattle.rm_machine_laws.specs.Loose.{IsLoose, StaysLoose}
-use Rattle.rm_machine_laws.proofs.Loosening.{nothing-named}
-use Rattle.rm_machine.specs.Sound.{IsSound}
+use Rattle.rm_machine.specs.{Configure.{policy_of, with_channels, with_policy}, BlockRecover.{MendsBlocks, MissesBlock}}
+use Rattle.rm_machine.specs.{Corrupt.{corrupted}, Effect.{Effect, done, no_effect}, EnableThread.{with_thread_on}, Laws.{only_tells}}
+use Rattle.rm_machine.specs.{LoseDatafile.{without_file}, LoseLog.{without_log}, Mount.{as_mounted}, Open.{opened}}
+use Rattle.rm_machine.specs.{ResetDatabase.{at_incarnation}, State.{now_of}, CreateDatafile.{with_datafile}}
+use Rattle.rm_machine.specs.{Recover.{RecoversTo, recover_target, recovered}, Restore.{RestoresTo, restored}, Step.{IsDone, refusal_of}}
+use Rattle.rm_machine.specs.{Tracking.{with_tracking}, Upkeep.{with_catalog}, Sound.{IsSound}, declared.state.State.{State}}
+use Rattle.rm_machine_laws.{specs.Loose.{IsLoose, StaysLoose}, proofs.{Leading.{done-by}, Telling.{never-done}, Loosening.{nothing-named}}}
 
 pub quiet-loose : (s : State) (c : Command) (lines said : List Line) (e : Effect) (q t : State) → done lines e t ≡ done said no_effect q → IsLoose (Some s) c e t
 quiet-loose s c lines said e q t is = nothing-named (Some s) c e t (let puts : e.puts ≡ [] = cc in puts) (let removes : e.removes ≡ [] = cc in removes)

@@ -1,22 +1,16 @@
 -- Statements on records touch no object but that of a record that goes.
-use Rattle.std.proofs.Common.{◌≡◌, ℕ, List, [], ◌∷◌, Some, true, subst, Contains}
-use Rattle.std.proofs.lemmas.Bool.{false≢true}
-use Rattle.rm_base.specs.declared.kinds.Class.{Class}
-use Rattle.rm_base.proofs.Members.{in-front}
-use Rattle.rm_lang_statement.specs.declared.command.ChangeTo.{ChangeTo}
-use Rattle.rm_lang_statement.specs.declared.command.Command.{Command}
+use Rattle.std.proofs.{Common.{◌≡◌, ℕ, List, [], ◌∷◌, Some, true, subst, Contains}, lemmas.Bool.{false≢true}}
+use Rattle.rm_base.{specs.declared.kinds.Class.{Class}, proofs.Members.{in-front}}
+use Rattle.rm_lang_statement.specs.declared.command.{ChangeTo.{ChangeTo}, Command.{Command}}
 use Rattle.rm_lang_statement.specs.declared.command.Command.TheVariants.{ChangeBackup, Crosscheck, DeleteBackup, DeleteExpired, DeleteObsolete}
 use Rattle.rm_commit.specs.Names.{is_named, itself}
 use Rattle.rm_report.specs.declared.line.Line.{Line}
-use Rattle.rm_machine.specs.Effect.{Effect, done}
-use Rattle.rm_machine.specs.Sound.{IsSound}
-use Rattle.rm_machine.specs.declared.state.State.{State}
-use Rattle.rm_machine.specs.Step.{names_in}
+use Rattle.rm_machine.specs.{Effect.{Effect, done}, Sound.{IsSound}, Step.{names_in}}
 use Rattle.rm_machine.specs.Upkeep.{changed_to, names_at, removing, with_catalog, with_statuses, without_all}
-use Rattle.rm_machine_laws.proofs.Deleting.{AreGone, gone, increment-free, left-free, named-in, part-free}
-use Rattle.rm_machine_laws.proofs.DeletingObsolete.{are-gone, names_of}
+use Rattle.rm_machine.specs.declared.state.State.{State}
 use Rattle.rm_machine_laws.specs.Loose.{IsLoose, IsNamedBy, StaysLoose, of_object, of_part}
-use Rattle.rm_machine_laws.proofs.LooseQuiet.{loose-done, quiet-loose}
+use Rattle.rm_machine_laws.proofs.Deleting.{AreGone, gone, increment-free, left-free, named-in, part-free}
+use Rattle.rm_machine_laws.proofs.{DeletingObsolete.{are-gone, names_of}, LooseQuiet.{loose-done, quiet-loose}}
 
 pub change-loose : (id : ℕ) (to : ChangeTo) → StaysLoose (ChangeBackup id to)
 change-loose id to = loose-done (ChangeBackup id to) (λ s held lines e t sound none is. quiet-loose s (ChangeBackup id to) lines _ e (with_catalog s (changed_to to id s.catalog)) t is)

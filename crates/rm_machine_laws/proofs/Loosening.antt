@@ -1,20 +1,12 @@
 -- What a statement touches, from a database at its moment or from none.
 use Rattle.std.proofs.Common.{◌≡◌, ◌∙◌, ℕ, List, [], Option, Some, None, true, false, ap, sym, subst, Contains}
 use Rattle.rm_commit.specs.Names.{is_named, itself, name_of}
-use Rattle.rm_lang_statement.specs.declared.command.Command.{Command}
-use Rattle.rm_lang_statement.specs.declared.command.Command.TheVariants.{CreateDatabase}
+use Rattle.rm_lang_statement.specs.declared.command.Command.{Command, TheVariants.{CreateDatabase}}
 use Rattle.rm_report.specs.declared.line.Line.{Line}
-use Rattle.rm_machine.specs.Effect.{Effect, done, refused}
-use Rattle.rm_machine.specs.Laws.{IsMomentOf}
-use Rattle.rm_machine.specs.Machine.{IsBorneOut, IsSoundBy, IsSoundMachine, Machine}
-use Rattle.rm_machine.specs.declared.state.State.{State}
-use Rattle.rm_machine.specs.State.{at_moment, ledger}
-use Rattle.rm_machine.specs.Step.{IsOutcomeWithout, names_in}
-use Rattle.rm_machine.proofs.Kept.{names-of}
-use Rattle.rm_machine.proofs.Later.{sound-later}
-use Rattle.rm_machine_laws.specs.Carries.{IsOutcomeIn}
-use Rattle.rm_machine_laws.specs.Loose.{IsLoose, IsNamedIn, StaysLoose, of_object, of_part}
-use Rattle.rm_machine_laws.specs.Moments.{IsMomentIn}
+use Rattle.rm_machine.specs.{Effect.{Effect, done, refused}, Laws.{IsMomentOf}, Machine.{IsBorneOut, IsSoundBy, IsSoundMachine, Machine}}
+use Rattle.rm_machine.specs.{State.{at_moment, ledger}, Step.{IsOutcomeWithout, names_in}, declared.state.State.{State}}
+use Rattle.rm_machine.proofs.{Kept.{names-of}, Later.{sound-later}}
+use Rattle.rm_machine_laws.specs.{Carries.{IsOutcomeIn}, Loose.{IsLoose, IsNamedIn, StaysLoose, of_object, of_part}, Moments.{IsMomentIn}}
 use Rattle.rm_machine_laws.proofs.Founding.{founded-quiet}
 
 -- a statement that puts nothing and takes nothing away

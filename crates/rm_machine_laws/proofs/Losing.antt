@@ -1,33 +1,16 @@
 -- HOST LOSE DATAFILE leads on: what stood in place is lost.
 use Rattle.std.proofs.Common.{◌≡◌, ◌≢◌, ◌<◌, ◌-◌, ◌∙◌, ◌==◌, not, filter, inl, inr, ℕ, List, Option, Bool, Some, None, true, false, is_none, refl, ap, sym, arith, slice_get, slice_set}
-use Rattle.std.proofs.lemmas.Bool.{eq-eqb, ne_eqb, not-true}
-use Rattle.std.proofs.lemmas.List.{length-set}
-use Rattle.std.proofs.lemmas.List.Elements.{All-contains, All-weaker}
-use Rattle.rm_base.specs.Store.{Held}
-use Rattle.rm_base.specs.declared.block.BlockId.{BlockId}
-use Rattle.rm_base.specs.declared.block.Change.{Change}
-use Rattle.rm_base.specs.declared.block.Row.{Row}
-use Rattle.rm_base.proofs.Lists.{filter_from}
-use Rattle.rm_base.proofs.Conditions.{not-none, unless}
-use Rattle.rm_base.proofs.Slots.{get-set, index-set}
+use Rattle.std.proofs.lemmas.{Bool.{eq-eqb, ne_eqb, not-true}, List.{length-set, Elements.{All-contains, All-weaker}}}
+use Rattle.rm_base.{specs.{Store.{Held}, declared.block.{BlockId.{BlockId}, Change.{Change}, Row.{Row}}}, proofs.Lists.{filter_from}}
+use Rattle.rm_base.proofs.{Conditions.{not-none, unless}, Slots.{get-set, index-set}}
 use Rattle.rm_blocks.specs.File.{File}
 use Rattle.rm_lang_statement.specs.declared.command.Command.TheVariants.{LoseDatafile}
-use Rattle.rm_history.specs.State.{state}
-use Rattle.rm_history.proofs.Worlds.{file-there}
-use Rattle.rm_machine.specs.Damage.{AreDamaged, IsInPlace, has_block}
-use Rattle.rm_machine.specs.Effect.{Made}
-use Rattle.rm_machine.specs.LoseDatafile.{lose_refusal, without_file}
-use Rattle.rm_machine.specs.Machine.{HistoryFits, IsBorneOut}
-use Rattle.rm_machine.specs.Sound.{IsSound}
-use Rattle.rm_machine.specs.declared.state.State.{State}
-use Rattle.rm_machine.specs.State.{current_of, now_of, on_path, placed, world}
-use Rattle.rm_machine.proofs.Damaged.{damaged-filtered, set-other, with_list}
-use Rattle.rm_machine_laws.proofs.DamagedLists.{block-stays, file-stays}
-use Rattle.rm_machine.proofs.Standing.{each-in}
-use Rattle.rm_machine.proofs.Places.{placed-is}
-use Rattle.rm_machine.proofs.Tracked.{on-path, tracked-same}
-use Rattle.rm_machine_laws.proofs.Leading.{LeadsOnBy, StaysBy}
-use Rattle.rm_machine_laws.proofs.Quiet.{quiet-on, quiet-stays}
+use Rattle.rm_history.{specs.State.{state}, proofs.Worlds.{file-there}}
+use Rattle.rm_machine.specs.{Damage.{AreDamaged, IsInPlace, has_block}, Effect.{Made}, LoseDatafile.{lose_refusal, without_file}}
+use Rattle.rm_machine.specs.{Machine.{HistoryFits, IsBorneOut}, Sound.{IsSound}, State.{current_of, now_of, on_path, placed, world}}
+use Rattle.rm_machine.{specs.declared.state.State.{State}, proofs.{Damaged.{damaged-filtered, set-other, with_list}, Standing.{each-in}}}
+use Rattle.rm_machine.proofs.{Places.{placed-is}, Tracked.{on-path, tracked-same}}
+use Rattle.rm_machine_laws.proofs.{DamagedLists.{block-stays, file-stays}, Leading.{LeadsOnBy, StaysBy}, Quiet.{quiet-on, quiet-stays}}
 
 -- what is still there was there
 still : (place : List (Option File)) (m k : ℕ) (x : File) → slice_get (slice_set place m None) k ≡ Some (Some x) → slice_get place k ≡ Some (Some x)

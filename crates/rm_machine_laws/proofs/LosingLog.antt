@@ -1,34 +1,19 @@
 -- HOST LOSE LOG leads on: the online log of a thread is lost.
-use Rattle.std.proofs.Common.{◌≡◌, ◌<◌, ◌∙◌, inl, inr, ℕ, List, None, true, false, ap, sym, subst}
-use Rattle.std.proofs.lemmas.Bool.{cases_eq, false≢true}
-use Rattle.rm_base.proofs.Conditions.{unless}
-use Rattle.rm_base.specs.Store.{Held}
-use Rattle.rm_base.specs.declared.block.Change.{Change}
+use Rattle.std.proofs.{Common.{◌≡◌, ◌<◌, ◌∙◌, inl, inr, ℕ, List, None, true, false, ap, sym, subst}, lemmas.Bool.{cases_eq, false≢true}}
+use Rattle.rm_base.{specs.{Store.{Held}, declared.block.Change.{Change}}, proofs.Conditions.{unless}}
 use Rattle.rm_lang_statement.specs.declared.command.Command.TheVariants.{LoseLog}
-use Rattle.rm_history.specs.Agrees.{LogAgrees}
-use Rattle.rm_history.specs.Tree.{IsThere, end_of}
+use Rattle.rm_history.specs.{Agrees.{LogAgrees}, Tree.{IsThere, end_of}}
 use Rattle.rm_catalog_typed.specs.Switches.{is_enabled_in}
-use Rattle.rm_redo.specs.declared.log_file.LogFile.{LogFile}
-use Rattle.rm_redo.specs.declared.online.LogRecord.{LogRecord}
-use Rattle.rm_redo.specs.LogFile.{log_of}
-use Rattle.rm_redo.specs.Logs.{Logs}
-use Rattle.rm_redo.specs.Online.{IsThread, with_loss, first_of, thread_records, sequence_of}
+use Rattle.rm_redo.specs.{LogFile.{log_of}, Logs.{Logs}, Online.{IsThread, with_loss, first_of, thread_records, sequence_of}}
+use Rattle.rm_redo.specs.declared.{log_file.LogFile.{LogFile}, online.LogRecord.{LogRecord}}
 use Rattle.rm_redo.proofs.Logs.{IsLost-with_loss, around-with_loss, first_of-with_loss, is_lost-with_loss_other, thread_records-with_loss, sequence_of-with_loss}
-use Rattle.rm_machine.specs.Effect.{Made}
-use Rattle.rm_machine.specs.LoseLog.{lose_log_refusal, without_log}
-use Rattle.rm_machine.specs.Machine.{HistoryFits, IsBorneOut}
-use Rattle.rm_machine.specs.Mount.{as_mounted}
+use Rattle.rm_machine.specs.{Effect.{Made}, LoseLog.{lose_log_refusal, without_log}, Machine.{HistoryFits, IsBorneOut}, Mount.{as_mounted}}
 use Rattle.rm_machine.specs.Sound.{AreOnline, IsOnline, IsSound}
-use Rattle.rm_machine.specs.declared.state.State.{State}
-use Rattle.rm_machine.specs.State.{ledger, tree, current_of, is_lost, is_no_thread, online, redo_end}
-use Rattle.rm_machine.proofs.Damaged.{damaged-none}
-use Rattle.rm_machine.proofs.Tracked.{tracked-same}
-use Rattle.rm_machine_laws.proofs.CountedLogs.{AgreeOnline, counted-agree, counted-online, with_logs}
-use Rattle.rm_machine_laws.proofs.Leading.{LeadsOnBy, StaysBy}
-use Rattle.rm_machine.proofs.Mounting.{mode-either, sound-as_mounted}
-use Rattle.rm_machine_laws.proofs.Mounting.{closed-as_mounted, none-mounted, stands-as_mounted}
-use Rattle.rm_machine_laws.proofs.Quiet.{quiet-on, quiet-stays}
+use Rattle.rm_machine.specs.{State.{ledger, tree, current_of, is_lost, is_no_thread, online, redo_end}, declared.state.State.{State}}
+use Rattle.rm_machine.proofs.{Damaged.{damaged-none}, Tracked.{tracked-same}, Mounting.{mode-either, sound-as_mounted}}
 use Rattle.rm_machine.proofs.Threads.{gone-with_loss, thread-before, thread-of}
+use Rattle.rm_machine_laws.proofs.{CountedLogs.{AgreeOnline, counted-agree, counted-online, with_logs}, Leading.{LeadsOnBy, StaysBy}}
+use Rattle.rm_machine_laws.proofs.{Mounting.{closed-as_mounted, none-mounted, stands-as_mounted}, Quiet.{quiet-on, quiet-stays}}
 
 -- a log as a file, by its parts
 abbrev file_by : ℕ → ℕ → ℕ → ℕ → ℕ → ℕ → List LogRecord → LogFile

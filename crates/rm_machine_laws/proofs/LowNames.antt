@@ -1,27 +1,18 @@
 -- Under an id that was given stands what stood there, but where HOST gave the name, or where the statement takes the object away. No statement
 -- takes an increment away.
-use Rattle.std.proofs.Common.{◌≡◌, ◌∙◌, ◌||◌, ◌⊎◌, inl, inr, ℕ, List, [], ◌∷◌, Option, Some, None, Bool, true, false, cond, refl, ap, sym, subst, Contains}
 use Rattle.std.specs.Str.{bytes_eq}
+use Rattle.std.proofs.Common.{◌≡◌, ◌∙◌, ◌||◌, ◌⊎◌, inl, inr, ℕ, List, [], ◌∷◌, Option, Some, None, Bool, true, false, cond, refl, ap, sym, subst, Contains}
 use Rattle.std.proofs.lemmas.Bool.{cases_Bool}
 use Rattle.rm_base.specs.Store.{Held}
-use Rattle.rm_commit.specs.declared.commit.Object.{Object}
 use Rattle.rm_commit.specs.Names.{HasPuts, HasRemoves, SameBeyondPuts, SameBeyondRemoves, after_all, bytes_of, is_named, itself, name_of, nothing}
-use Rattle.rm_commit.proofs.Named.{unnamed-stays}
-use Rattle.rm_evidence.specs.Names.{roll_name}
-use Rattle.rm_evidence.proofs.Names.{roll-no-site}
+use Rattle.rm_commit.{specs.declared.commit.Object.{Object}, proofs.Named.{unnamed-stays}}
+use Rattle.rm_evidence.{specs.Names.{roll_name}, proofs.Names.{roll-no-site}}
 use Rattle.rm_lang_statement.specs.declared.command.Command.{Command}
 use Rattle.rm_report.specs.declared.line.Reply.{Reply}
-use Rattle.rm_machine.specs.Effect.{Outcome, done, refused, told}
-use Rattle.rm_machine.specs.Machine.{IsSoundMachine, Machine}
-use Rattle.rm_machine.specs.Step.{Step, StepBy, StepIn, and_drops, names_in}
-use Rattle.rm_machine.specs.Rest.{catalog_in}
-use Rattle.rm_machine.specs.declared.state.State.{State}
-use Rattle.rm_machine_laws.specs.Carries.{IsOutcomeIn}
-use Rattle.rm_machine_laws.specs.Loose.{IsGivenIn, IsLowIn, StaysLoose, is_roll}
-use Rattle.rm_machine_laws.specs.Moments.{IsMomentIn}
-use Rattle.rm_machine_laws.proofs.Carried.{acts_on, same-puts}
-use Rattle.rm_machine_laws.proofs.Dropping.{named-first}
-use Rattle.rm_machine_laws.proofs.Loosening.{loose-from}
+use Rattle.rm_machine.specs.{Effect.{Outcome, done, refused, told}, Machine.{IsSoundMachine, Machine}}
+use Rattle.rm_machine.specs.{Step.{Step, StepBy, StepIn, and_drops, names_in}, Rest.{catalog_in}, declared.state.State.{State}}
+use Rattle.rm_machine_laws.specs.{Carries.{IsOutcomeIn}, Loose.{IsGivenIn, IsLowIn, StaysLoose, is_roll}, Moments.{IsMomentIn}}
+use Rattle.rm_machine_laws.proofs.{Carried.{acts_on, same-puts}, Dropping.{named-first}, Loosening.{loose-from}}
 
 either : (b : Bool) (o : Option (List ℕ)) → cond b o o ≡ o
 either true o = refl

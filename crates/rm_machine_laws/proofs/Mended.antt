@@ -1,44 +1,23 @@
 -- Along the events of a BLOCKRECOVER the database fits its history, but for the blocks that are still damaged.
-use Rattle.std.proofs.Common.{◌≡◌, ◌≢◌, ◌<◌, ◌-◌, ◌∙◌, ◌++◌, ◌==◌, ◌&&◌, ◌||◌, not, inl, inr, ℕ, zero, suc, List, [], ◌∷◌, Some, None, Ok, Err, Bool, true, false, filter, refl, ap, sym, subst, arith, append_assoc, Contains, slice_get, slice_set}
 use Rattle.std.specs.Option.{option_and_then, option_map}
-use Rattle.std.proofs.lemmas.Bool.{and_from, and_parts, cases_Bool, cases_eq, eq-eqb, or_parts}
-use Rattle.std.proofs.lemmas.List.{append-nil}
+use Rattle.std.proofs.Common.{◌≡◌, ◌≢◌, ◌<◌, ◌-◌, ◌∙◌, ◌++◌, ◌==◌, ◌&&◌, ◌||◌, not, inl, inr, ℕ, zero, suc, List, [], ◌∷◌, Some, None, Ok, Err, Bool, true, false, filter, refl, ap, sym, subst, arith, append_assoc, Contains, slice_get, slice_set}
+use Rattle.std.proofs.lemmas.{Bool.{and_from, and_parts, cases_Bool, cases_eq, eq-eqb, or_parts}, List.{append-nil}}
 use Rattle.std.proofs.lemmas.List.Elements.{All-contains, All-weaker}
-use Rattle.rm_base.specs.Store.{Held}
-use Rattle.rm_base.specs.declared.block.BlockId.{BlockId}
-use Rattle.rm_base.specs.declared.block.Change.{Change}
-use Rattle.rm_base.specs.declared.block.Row.{Row}
-use Rattle.rm_base.proofs.Lists.{filter_from, filter_to}
-use Rattle.rm_base.proofs.Slots.{all-get, all-set_others, index-set}
+use Rattle.rm_base.specs.{Store.{Held}, declared.block.{BlockId.{BlockId}, Change.{Change}, Row.{Row}}}
+use Rattle.rm_base.proofs.{Lists.{filter_from, filter_to}, Slots.{all-get, all-set_others, index-set}}
 use Rattle.rm_blocks.specs.File.{File, put}
-use Rattle.rm_history.specs.State.{state}
-use Rattle.rm_history.proofs.Worlds.{file-there}
+use Rattle.rm_history.{specs.State.{state}, proofs.Worlds.{file-there}}
 use Rattle.rm_lang_statement.specs.declared.command.WriteForm.{WriteForm}
-use Rattle.rm_live.specs.declared.history.Answer.{Answer}
-use Rattle.rm_live.specs.declared.history.Answer.TheVariants.{Found, Mended, Wrote}
-use Rattle.rm_live.specs.declared.history.Call.{Call}
-use Rattle.rm_live.specs.declared.history.Call.TheVariants.{Mend, Read, Write}
-use Rattle.rm_live.specs.declared.history.Event.{Event}
-use Rattle.rm_live.specs.History.{IsLegal, IsRight}
-use Rattle.rm_machine.specs.Damage.{has_block}
-use Rattle.rm_machine.specs.Dump.{placed_row}
-use Rattle.rm_machine.specs.Effect.{Made}
+use Rattle.rm_live.specs.{History.{IsLegal, IsRight}, declared.history.{Answer.{Answer, TheVariants.{Found, Mended, Wrote}}, Call.{Call}}}
+use Rattle.rm_live.specs.declared.history.{Call.TheVariants.{Mend, Read, Write}, Event.{Event}}
+use Rattle.rm_machine.specs.{Damage.{has_block}, Dump.{placed_row}, Effect.{Made}}
 use Rattle.rm_machine.specs.Events.{after_event, after_events, change_by, changes_of, opening, with_placed_row, write_form}
-use Rattle.rm_machine.specs.Machine.{HistoryFits, IsBorneOut, SoundRowsAre}
-use Rattle.rm_machine.specs.Repair.{is_mend_of, is_mended, is_touched, is_write_of}
-use Rattle.rm_machine.specs.Write.{change_of, with_write}
-use Rattle.rm_machine.specs.declared.state.State.{State}
-use Rattle.rm_machine.specs.State.{current_of, now_of, placed, world}
-use Rattle.rm_machine.proofs.BackupAccepted.{CanBeWritten}
-use Rattle.rm_machine.proofs.Damaged.{placed-put, placed-put_other, with_list}
-use Rattle.rm_machine.proofs.Mending.{AreDue, CanMend, IsDue, IsPatch, Patch, can-event, row_of}
-use Rattle.rm_machine.proofs.Places.{placed-is}
-use Rattle.rm_machine.proofs.Putting.{sound-fewer, sound-put}
-use Rattle.rm_machine.proofs.Walk.{CanGoOn, accepted, full, legal-on}
-use Rattle.rm_machine.proofs.Writes.{Accepted}
-use Rattle.rm_machine_laws.proofs.DamagedLists.{any-fewer, same-block}
-use Rattle.rm_machine_laws.proofs.DamagedRows.{sound-agrees}
-use Rattle.rm_machine_laws.proofs.Writing.{borne-write}
+use Rattle.rm_machine.specs.{Machine.{HistoryFits, IsBorneOut, SoundRowsAre}, Repair.{is_mend_of, is_mended, is_touched, is_write_of}}
+use Rattle.rm_machine.specs.{Write.{change_of, with_write}, State.{current_of, now_of, placed, world}, declared.state.State.{State}}
+use Rattle.rm_machine.proofs.{BackupAccepted.{CanBeWritten}, Damaged.{placed-put, placed-put_other, with_list}}
+use Rattle.rm_machine.proofs.{Mending.{AreDue, CanMend, IsDue, IsPatch, Patch, can-event, row_of}, Places.{placed-is}}
+use Rattle.rm_machine.proofs.{Putting.{sound-fewer, sound-put}, Walk.{CanGoOn, accepted, full, legal-on}, Writes.{Accepted}}
+use Rattle.rm_machine_laws.proofs.{DamagedLists.{any-fewer, same-block}, DamagedRows.{sound-agrees}, Writing.{borne-write}}
 use Rattle.rm_machine_laws.proofs.WritesKeep.{state-write}
 
 -- A block that is neither mended nor written

@@ -1,29 +1,17 @@
 -- HOST REMOVE, DAMAGE, CUT and RENAME lead on: the names count as touched, and each other name holds what it held.
-use Rattle.std.proofs.Common.{◌≡◌, ◌∙◌, ◌++◌, ◌⊎◌, nat_le, inl, inr, ℕ, List, [], ◌∷◌, Option, Some, None, Bool, true, false, cond, refl, ap, sym, subst, Contains, length, take}
 use Rattle.std.specs.Str.{bytes_eq}
-use Rattle.std.proofs.lemmas.Bool.{cases_Bool}
-use Rattle.std.proofs.lemmas.List.{append-nil}
-use Rattle.std.proofs.lemmas.List.Elements.{Contains-append_left, Contains-append_right}
-use Rattle.rm_base.specs.Store.{Held}
-use Rattle.rm_base.specs.declared.block.Change.{Change}
-use Rattle.rm_base.specs.declared.refusal.Refusal.{Refusal}
-use Rattle.rm_base.specs.declared.refusal.Refusal.TheVariants.{Rm12}
-use Rattle.rm_base.specs.declared.refusal.Unknown.TheVariants.{Byte}
-use Rattle.rm_base.proofs.Members.{behind, in-front}
+use Rattle.std.proofs.Common.{◌≡◌, ◌∙◌, ◌++◌, ◌⊎◌, nat_le, inl, inr, ℕ, List, [], ◌∷◌, Option, Some, None, Bool, true, false, cond, refl, ap, sym, subst, Contains, length, take}
+use Rattle.std.proofs.lemmas.{Bool.{cases_Bool}, List.{append-nil, Elements.{Contains-append_left, Contains-append_right}}}
+use Rattle.rm_base.specs.{Store.{Held}, declared.{block.Change.{Change}, refusal.Refusal.{Refusal, TheVariants.{Rm12}}}}
+use Rattle.rm_base.{specs.declared.refusal.Unknown.TheVariants.{Byte}, proofs.Members.{behind, in-front}}
 use Rattle.rm_commit.proofs.Named.{same-name}
 use Rattle.rm_lang_statement.specs.declared.command.Command.TheVariants.{Cut, Damage, Remove, Rename}
 use Rattle.rm_catalog_typed.specs.Ledger.{Ledger}
-use Rattle.rm_report.specs.declared.line.Line.{Line}
-use Rattle.rm_report.specs.declared.line.Line.TheVariants as line
+use Rattle.rm_report.specs.declared.line.Line.{Line, TheVariants as line}
 use Rattle.rm_machine.specs.Mishaps.{cut_by, damage_by, damaged, removal, remove_by, rename_by, renaming, replacement}
-use Rattle.rm_machine.specs.Effect.{Effect, LeavesObjects, Made, done, refused}
-use Rattle.rm_machine.specs.Machine.{IsBorneOut}
-use Rattle.rm_machine.specs.declared.state.State.{State}
-use Rattle.rm_machine.specs.State.{ledger}
-use Rattle.rm_machine.proofs.Kept.{StandOn}
-use Rattle.rm_machine.proofs.Later.{borne-beside}
-use Rattle.rm_machine_laws.proofs.Leading.{LeadsOnBy, StaysBy}
-use Rattle.rm_machine_laws.proofs.Quiet.{same-stays, unchanged}
+use Rattle.rm_machine.specs.{Effect.{Effect, LeavesObjects, Made, done, refused}, Machine.{IsBorneOut}, State.{ledger}}
+use Rattle.rm_machine.{specs.declared.state.State.{State}, proofs.{Kept.{StandOn}, Later.{borne-beside}}}
+use Rattle.rm_machine_laws.proofs.{Leading.{LeadsOnBy, StaysBy}, Quiet.{same-stays, unchanged}}
 
 -- each name is one of these, or holds what it held
 abbrev EachElse : List (List ℕ) → Held → Held → Type 0

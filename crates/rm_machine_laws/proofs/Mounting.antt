@@ -1,29 +1,16 @@
 -- SHUTDOWN and STARTUP lead on: the mode changes.
 use Rattle.std.proofs.Common.{◌≡◌, ◌+◌, ◌-◌, ◌∙◌, ℕ, List, [], Some, None, Bool, true, false, cond, is_none, refl, ap, sym, subst, arith, slice_get, slice_index_or}
 use Rattle.std.proofs.lemmas.Bool.{false≢true}
-use Rattle.rm_base.specs.Store.{Held}
-use Rattle.rm_base.specs.declared.block.Change.{Change}
+use Rattle.rm_base.{specs.{Store.{Held}, declared.block.Change.{Change}}, proofs.{Slots.{get-mapped, index-get}, Conditions.{given-where}}}
 use Rattle.rm_blocks.specs.File.{File, base_of}
-use Rattle.rm_base.proofs.Slots.{get-mapped, index-get}
 use Rattle.rm_history.specs.Agrees.{BaseAgrees}
-use Rattle.rm_machine.specs.Damage.{has_file, without_damaged}
-use Rattle.rm_machine.specs.Effect.{Made}
-use Rattle.rm_machine.specs.Machine.{HistoryFits, RowsAre, IsBorneOut}
-use Rattle.rm_machine.specs.Mount.{as_mounted, first_lost, mount_point, mounted}
-use Rattle.rm_machine.specs.Sound.{IsSound}
-use Rattle.rm_machine.specs.declared.state.State.{State}
-use Rattle.rm_machine.specs.State.{world, placed, counted}
-use Rattle.rm_lang_statement.specs.declared.command.Command.TheVariants.{Mount}
-use Rattle.rm_base.proofs.Conditions.{given-where}
-use Rattle.rm_machine.proofs.Undamaged.{sound-undamaged}
-use Rattle.rm_machine.proofs.FirstTold.{tell-none}
-use Rattle.rm_machine.proofs.LosingFits.{losing-fits}
-use Rattle.rm_machine_laws.proofs.DamagedRows.{none-damaged}
-use Rattle.rm_machine_laws.proofs.Leading.{LeadsOnBy, StaysBy}
-use Rattle.rm_machine.proofs.Places.{counted-closed, counted-open, placed-map}
-use Rattle.rm_machine_laws.proofs.Quiet.{quiet-on, quiet-stays}
+use Rattle.rm_machine.specs.{Damage.{has_file, without_damaged}, Effect.{Made}, Machine.{HistoryFits, RowsAre, IsBorneOut}}
+use Rattle.rm_machine.specs.{Mount.{as_mounted, first_lost, mount_point, mounted}, Sound.{IsSound}, State.{world, placed, counted}}
+use Rattle.rm_machine.{specs.declared.state.State.{State}, proofs.{Undamaged.{sound-undamaged}, FirstTold.{tell-none}}}
+use Rattle.rm_machine.proofs.{Mounting as shared, LosingFits.{losing-fits}, Places.{counted-closed, counted-open, placed-map}}
 use Rattle.rm_machine.proofs.Mounting.{mode-either, sound-as_mounted}
-use Rattle.rm_machine.proofs.Mounting as shared
+use Rattle.rm_lang_statement.specs.declared.command.Command.TheVariants.{Mount}
+use Rattle.rm_machine_laws.proofs.{DamagedRows.{none-damaged}, Leading.{LeadsOnBy, StaysBy}, Quiet.{quiet-on, quiet-stays}}
 
 module _ (s : State) (sound : IsSound s) (opened : s.instance.is_open ≡ true) (none : s.instance.damaged ≡ []) where
   abbrev i : ℕ

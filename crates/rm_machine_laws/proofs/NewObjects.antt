@@ -1,35 +1,22 @@
 -- Objects that come to stand under names that no record has, and a log that is recorded with its own.
-use Rattle.std.proofs.Common.{◌≡◌, ◌≢◌, ◌≤◌, ◌∙◌, ◌++◌, ◌⊎◌, inl, inr, ℕ, List, [], ◌∷◌, Some, Bool, cond, refl, ap, sym, subst, arith, Contains}
 use Rattle.std.specs.Str.{bytes_eq}
-use Rattle.std.proofs.lemmas.Bool.{cases_Bool}
-use Rattle.std.proofs.lemmas.List.Elements.{Contains-append_left, Contains-push, Contains-push_cases}
+use Rattle.std.proofs.Common.{◌≡◌, ◌≢◌, ◌≤◌, ◌∙◌, ◌++◌, ◌⊎◌, inl, inr, ℕ, List, [], ◌∷◌, Some, Bool, cond, refl, ap, sym, subst, arith, Contains}
+use Rattle.std.proofs.lemmas.{Bool.{cases_Bool}, List.Elements.{Contains-append_left, Contains-push, Contains-push_cases}}
 use Rattle.std.proofs.lemmas.Slice.Eq.{bytes_eq-Decides}
-use Rattle.rm_base.specs.Store.{Held}
-use Rattle.rm_base.specs.declared.block.Change.{Change}
-use Rattle.rm_catalog.specs.declared.record.LogEntry.{LogEntry}
-use Rattle.rm_catalog.specs.declared.record.PieceEntry.{PieceEntry}
-use Rattle.rm_catalog.specs.declared.record.SetEntry.{SetEntry}
-use Rattle.rm_commit.specs.declared.commit.Object.{Object}
-use Rattle.rm_commit.specs.Names.{HasPuts, after_all as all_after, bytes_of, name_of}
-use Rattle.rm_catalog_typed.specs.LedgerFacts.{IsLedger}
-use Rattle.rm_catalog_typed.specs.Ledger.{Ledger}
+use Rattle.rm_base.specs.{Store.{Held}, declared.block.Change.{Change}}
+use Rattle.rm_catalog.specs.declared.record.{LogEntry.{LogEntry}, PieceEntry.{PieceEntry}, SetEntry.{SetEntry}}
+use Rattle.rm_commit.specs.{Names.{HasPuts, after_all as all_after, bytes_of, name_of}, declared.commit.Object.{Object}}
+use Rattle.rm_catalog_typed.specs.{LedgerFacts.{IsLedger}, Ledger.{Ledger}, Worlds.{database_of}}
 use Rattle.rm_catalog_typed.proofs.Lookups.{log-id-within, piece-id-within, set-id-within}
-use Rattle.rm_evidence.specs.Names.{log_name, piece_name, set_name}
-use Rattle.rm_evidence.specs.Objects.{HasDigest, HasLogFields}
+use Rattle.rm_evidence.specs.{Names.{log_name, piece_name, set_name}, Objects.{HasDigest, HasLogFields}}
 use Rattle.rm_evidence.proofs.Names.{log-name-tells, log-no-piece, log-no-set, piece-name-tells, piece-no-set, set-name-tells}
-use Rattle.rm_redo.specs.declared.log_file.LogFile.{LogFile}
-use Rattle.rm_redo.specs.LogFormat.{spelling}
+use Rattle.rm_redo.specs.{LogFormat.{spelling}, declared.log_file.LogFile.{LogFile}}
 use Rattle.rm_machine.specs.Effect.{Made, a_log}
 use Rattle.rm_machine.specs.Machine.{HasLogArtefact, HasPieceArtefact, HasSetArtefact, HaveArtefacts, HistoryFits, IsBorneOut, IsTrueArtefact}
-use Rattle.rm_machine.specs.Names.{IsObjectName, of_log, of_piece, of_set}
-use Rattle.rm_machine.specs.Sound.{IsSound}
-use Rattle.rm_machine.specs.declared.state.Instance.{Instance}
-use Rattle.rm_machine.specs.declared.state.State.{State}
-use Rattle.rm_machine.specs.State.{ledger, world}
-use Rattle.rm_catalog_typed.specs.Worlds.{database_of}
-use Rattle.rm_machine_laws.proofs.Dropping.{after-both}
-use Rattle.rm_machine.proofs.Kept.{GrowsTo, StandOn, kept-on, stays-so}
+use Rattle.rm_machine.specs.{Names.{IsObjectName, of_log, of_piece, of_set}, Sound.{IsSound}, State.{ledger, world}}
+use Rattle.rm_machine.{specs.declared.state.{Instance.{Instance}, State.{State}}, proofs.Kept.{GrowsTo, StandOn, kept-on, stays-so}}
 use Rattle.rm_machine.proofs.NewObjects.{logged}
+use Rattle.rm_machine_laws.proofs.Dropping.{after-both}
 
 -- the objects, where these stand under their names
 abbrev pub with_puts : List Object → Held → Held

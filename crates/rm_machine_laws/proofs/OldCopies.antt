@@ -1,25 +1,20 @@
 -- RECOVER COPY: the names that come are of new ids, and those that go are those of no record that is left.
-use Rattle.std.proofs.Common.{◌≡◌, ◌≢◌, ◌<◌, ◌≤◌, ◌+◌, ◌^◌, inl, inr, ℕ, List, [], ◌∷◌, Option, Some, None, true, refl, ap, sym, arith, All, Contains}
 use Rattle.std.specs.Option.{option_map_or}
+use Rattle.std.proofs.Common.{◌≡◌, ◌≢◌, ◌<◌, ◌≤◌, ◌+◌, ◌^◌, inl, inr, ℕ, List, [], ◌∷◌, Option, Some, None, true, refl, ap, sym, arith, All, Contains}
 use Rattle.std.proofs.lemmas.List.Elements.{All-append, All-cons, All-nil, Contains-append_cases, Contains-push_cases}
 use Rattle.rm_base.proofs.Members.{first-or-rest, none-in}
 use Rattle.rm_backup.specs.declared.renewing.Renewed.{Renewed}
 use Rattle.rm_catalog.specs.declared.record.PieceEntry.{PieceEntry}
 use Rattle.rm_commit.specs.declared.commit.Object.{Object}
-use Rattle.rm_catalog_typed.proofs.Lookups.{piece-id-within}
+use Rattle.rm_catalog_typed.{specs.Changes.{without_one}, proofs.Lookups.{piece-id-within}}
 use Rattle.rm_evidence.specs.Names.{piece_name, roll_name, site_name}
 use Rattle.rm_evidence.proofs.Names.{log-no-piece, piece-name-tells, piece-no-roll, piece-no-set, piece-no-site}
-use Rattle.rm_piece.specs.declared.piece.Piece.{Piece}
-use Rattle.rm_piece.specs.Spelling.{spelling}
-use Rattle.rm_catalog_typed.specs.Changes.{without_one}
+use Rattle.rm_piece.specs.{Spelling.{spelling}, declared.piece.Piece.{Piece}}
 use Rattle.rm_machine.specs.Names.{IsObjectName, of_log, of_piece, of_set}
-use Rattle.rm_machine.specs.RecoverCopy.{after_copies, after_copy, copies_gone, copies_put, renewed_entry, renewed_name}
-use Rattle.rm_machine.specs.Sound.{IsSound}
-use Rattle.rm_machine.specs.declared.state.State.{State}
-use Rattle.rm_machine.specs.State.{ledger}
-use Rattle.rm_machine_laws.proofs.Deleting.{left-one}
+use Rattle.rm_machine.specs.{RecoverCopy.{after_copies, after_copy, copies_gone, copies_put, renewed_entry, renewed_name}, Sound.{IsSound}}
+use Rattle.rm_machine.specs.{State.{ledger}, declared.state.State.{State}}
 use Rattle.rm_machine.proofs.Renewing.{CanRenewAll, CanRenewTo, drawn, first-can, first-room, next-to, renewed_to, rest-can, sound-to}
-use Rattle.rm_machine_laws.proofs.Renewing.{put_to, renewals-sound}
+use Rattle.rm_machine_laws.proofs.{Deleting.{left-one}, Renewing.{put_to, renewals-sound}}
 
 -- an id that was drawn before
 abbrev IsDrawn : State → PieceEntry → Type 0

@@ -1,26 +1,14 @@
 -- The premises of the laws can be met where a database branched off, by a level 1 too.
 use Rattle.std.proofs.Common.{rules, Bool, true, false, cond, Option, zero, suc, ◌-◌, ◌==◌, nat_lt, eqb, slice_get, ◌≡◌, ◌<◌, ◌≤◌, ◌∙◌, inl, inr, ℕ, [], ◌∷◌, Some, None, refl, ap, sym, subst, arith, Contains}
-use Rattle.std.proofs.lemmas.Bool.{and_from, cases_eq, lt-ltb, eq-eqb}
-use Rattle.std.proofs.lemmas.Grind.{common_steps}
-use Rattle.rm_base.specs.Content.{padded, zero_block}
-use Rattle.rm_base.specs.declared.block.Block.{Block}
-use Rattle.rm_base.specs.declared.block.Row.{Row}
+use Rattle.std.proofs.lemmas.{Bool.{and_from, cases_eq, lt-ltb, eq-eqb}, Grind.{common_steps}}
+use Rattle.rm_base.specs.{Content.{padded, zero_block}, declared.block.{Block.{Block}, Row.{Row}}}
 use Rattle.rm_base.proofs.Members.{behind, first-or-rest, in-front, none-in}
-use Rattle.rm_history.specs.declared.world.Datafile.{Datafile}
-use Rattle.rm_history.specs.Agrees.{BaseAgrees, IsBelow, IsRow, Level1Agrees, lists}
-use Rattle.rm_history.specs.Artefacts.{Level1}
-use Rattle.rm_history.specs.Evidence.{Agrees}
-use Rattle.rm_history.specs.FirstGap.{HasGap, IsTarget}
-use Rattle.rm_history.specs.History.{IsChange, IsHistory, SamePlace}
+use Rattle.rm_history.specs.{Agrees.{BaseAgrees, IsBelow, IsRow, Level1Agrees, lists}, Artefacts.{Level1}, Evidence.{Agrees}}
+use Rattle.rm_history.specs.{FirstGap.{HasGap, IsTarget}, History.{IsChange, IsHistory, SamePlace}}
 use Rattle.rm_history.specs.Known.{Determined, HasRow, IsGreatest, Quiet, QuietBetween, Seen, by_absence, by_creation, by_log, by_logs, by_row, in_base, in_level1}
-use Rattle.rm_history.specs.Threads.{IsEnabled}
-use Rattle.rm_history.specs.Tree.{HasParentsBelow, IsTree, owner, parent_of, reset_of}
-use Rattle.rm_history.specs.Unknown.{IsWorld}
-use Rattle.rm_history.specs.World.{file_of}
-use Rattle.rm_history.proofs.Enabled.{unswitched}
-use Rattle.rm_history.proofs.Example.{only}
-use Rattle.rm_history.proofs.Histories.{IsHistory-push, IsHistory-push_above}
-use Rattle.rm_history.proofs.Owners.{owner-first}
+use Rattle.rm_history.specs.{Threads.{IsEnabled}, Tree.{HasParentsBelow, IsTree, owner, parent_of, reset_of}, Unknown.{IsWorld}}
+use Rattle.rm_history.{specs.{World.{file_of}, declared.world.Datafile.{Datafile}}, proofs.{Enabled.{unswitched}, Example.{only}}}
+use Rattle.rm_history.proofs.{Histories.{IsHistory-push, IsHistory-push_above}, Owners.{owner-first}}
 use Rattle.rm_machine_laws.specs.Branched.{at_block, both, branched, left_copy, level1, two}
 
 -- what holds of the two items of a list holds of each

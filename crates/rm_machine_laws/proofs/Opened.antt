@@ -1,26 +1,14 @@
 -- What stands in place where a database is opened at its point.
 use Rattle.std.proofs.Common.{◌≡◌, ◌<◌, ◌≤◌, ◌-◌, ◌∙◌, ℕ, zero, suc, List, [], ◌∷◌, Option, Some, None, true, cond, refl, ap, sym, subst, arith, length, All, slice_get, slice_index_or}
-use Rattle.std.proofs.lemmas.List.Elements.{All-contains}
-use Rattle.std.proofs.lemmas.Option.{slice_get_within}
-use Rattle.rm_base.specs.declared.block.Change.{Change}
-use Rattle.rm_base.specs.declared.block.Row.{Row}
-use Rattle.rm_base.proofs.Conditions.{given-where}
-use Rattle.rm_base.proofs.Slots.{get-index}
+use Rattle.std.proofs.lemmas.{List.Elements.{All-contains}, Option.{slice_get_within}}
+use Rattle.rm_base.{specs.declared.block.{Change.{Change}, Row.{Row}}, proofs.{Conditions.{given-where}, Slots.{get-index}}}
 use Rattle.rm_blocks.specs.File.{File, base_of, standing}
-use Rattle.rm_history.specs.Agrees.{BaseAgrees}
-use Rattle.rm_history.specs.declared.tree.Incarnation.{Incarnation}
-use Rattle.rm_history.specs.declared.world.Datafile.{Datafile}
-use Rattle.rm_history.specs.declared.world.World.{World}
-use Rattle.rm_history.specs.State.{state}
-use Rattle.rm_history.specs.Tree.{IsThere, end_of}
-use Rattle.rm_history.specs.World.{exists}
+use Rattle.rm_history.specs.{Agrees.{BaseAgrees}, State.{state}, Tree.{IsThere, end_of}, World.{exists}}
+use Rattle.rm_history.specs.declared.{tree.Incarnation.{Incarnation}, world.{Datafile.{Datafile}, World.{World}}}
 use Rattle.rm_history.proofs.Highs.{high-bound}
 use Rattle.rm_catalog_typed.proofs.Lookups.{item-at}
-use Rattle.rm_machine.specs.Machine.{HistoryFits, RowsAre}
-use Rattle.rm_machine.specs.Open.{kept_in_place}
-use Rattle.rm_machine.specs.Sound.{IsPlaced, IsPoint, IsSound}
-use Rattle.rm_machine.specs.declared.state.State.{State}
-use Rattle.rm_machine.specs.State.{current_of, ledger, world}
+use Rattle.rm_machine.specs.{Machine.{HistoryFits, RowsAre}, Open.{kept_in_place}, Sound.{IsPlaced, IsPoint, IsSound}}
+use Rattle.rm_machine.specs.{State.{current_of, ledger, world}, declared.state.State.{State}}
 
 -- what is kept in place stood there, and its datafile exists there
 pub kept-get : (w : World) (i s : ℕ) (ds : List Datafile) (place : List (Option File)) (k : ℕ) (d : Datafile) (x : File) → slice_get ds k ≡ Some d → slice_get (kept_in_place w i s ds place) k ≡ Some (Some x) → (exists w i s d ≡ true) × (slice_get place k ≡ Some (Some x))

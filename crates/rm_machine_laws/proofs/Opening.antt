@@ -1,33 +1,21 @@
 -- OPEN leads on: the mode changes, and datafiles go out of place.
+use Rattle.std.specs.{List.{list_any}, Option.{option_map_or}}
 use Rattle.std.proofs.Common.{◌≡◌, ◌-◌, ◌==◌, ◌&&◌, not, ℕ, zero, suc, List, [], ◌∷◌, Option, Some, None, Bool, true, false, refl, ap, sym, subst, arith, slice_get}
-use Rattle.std.specs.List.{list_any}
-use Rattle.std.specs.Option.{option_map_or}
 use Rattle.std.proofs.lemmas.Bool.{and_parts, eqb-true, not-true, or_parts}
-use Rattle.rm_base.specs.Store.{Held}
-use Rattle.rm_base.specs.declared.block.Change.{Change}
-use Rattle.rm_base.specs.declared.refusal.Refusal.TheVariants.{Rm04, Rm10}
+use Rattle.rm_base.specs.{Store.{Held}, declared.{block.Change.{Change}, refusal.Refusal.TheVariants.{Rm04, Rm10}}}
+use Rattle.rm_base.proofs.Conditions.{only-where, unless}
 use Rattle.rm_blocks.specs.File.{File, base_of}
-use Rattle.rm_history.specs.Agrees.{BaseAgrees}
-use Rattle.rm_history.specs.declared.world.Datafile.{Datafile}
-use Rattle.rm_redo.specs.declared.online.ThreadLog.{ThreadLog}
-use Rattle.rm_redo.specs.Online.{IsThread}
-use Rattle.rm_machine.specs.Effect.{Made}
-use Rattle.rm_machine.specs.Machine.{HistoryFits, RowsAre, IsBorneOut}
-use Rattle.rm_machine.specs.Marks.{ids_refusal}
-use Rattle.rm_machine.specs.Open.{is_recovered, open_refusal, opened}
-use Rattle.rm_machine.specs.Sound.{IsPlaced, IsSound}
-use Rattle.rm_machine.specs.declared.state.State.{State}
-use Rattle.rm_machine.specs.State.{world, current_of, now_of, placed, counted, has_lost, is_lost}
+use Rattle.rm_history.specs.{Agrees.{BaseAgrees}, declared.world.Datafile.{Datafile}}
+use Rattle.rm_redo.specs.{Online.{IsThread}, declared.online.ThreadLog.{ThreadLog}}
+use Rattle.rm_machine.specs.{Effect.{Made}, Machine.{HistoryFits, RowsAre, IsBorneOut}, Marks.{ids_refusal}}
+use Rattle.rm_machine.specs.{Open.{is_recovered, open_refusal, opened}, Sound.{IsPlaced, IsSound}}
+use Rattle.rm_machine.specs.{State.{world, current_of, now_of, placed, counted, has_lost, is_lost}, declared.state.State.{State}}
+use Rattle.rm_machine.proofs.{Damaged.{damaged-none}, Tracked.{tracked-fresh}, FirstTold.{tell-first}}
+use Rattle.rm_machine.proofs.Places.{counted-closed, counted-open}
 use Rattle.rm_lang_statement.specs.declared.command.Command.TheVariants.{OpenPlain}
-use Rattle.rm_machine.proofs.Damaged.{damaged-none}
-use Rattle.rm_machine.proofs.Tracked.{tracked-fresh}
-use Rattle.rm_machine.proofs.FirstTold.{tell-first}
 use Rattle.rm_machine_laws.proofs.DamagedRows.{but-damaged}
 use Rattle.rm_machine_laws.proofs.Opened.{below-point, kept-get, kept-length, kept-rows, placed-standing, rows-agree}
-use Rattle.rm_base.proofs.Conditions.{only-where, unless}
-use Rattle.rm_machine_laws.proofs.Leading.{LeadsOnBy, StaysBy}
-use Rattle.rm_machine.proofs.Places.{counted-closed, counted-open}
-use Rattle.rm_machine_laws.proofs.Quiet.{quiet-on, quiet-stays}
+use Rattle.rm_machine_laws.proofs.{Leading.{LeadsOnBy, StaysBy}, Quiet.{quiet-on, quiet-stays}}
 
 record CanOpen (s : State) : Type 0 where
   shut : s.instance.is_open ≡ false

@@ -1,27 +1,14 @@
 -- A piece or a set is recorded under the next id, with its artefact and its object.
 use Rattle.std.proofs.Common.{◌≡◌, ◌++◌, inl, inr, ℕ, List, [], ◌∷◌, Some, Bool, sym, subst, arith, Contains}
 use Rattle.std.proofs.lemmas.List.Elements.{Contains-push, Contains-push_cases}
-use Rattle.rm_base.specs.Store.{Held}
-use Rattle.rm_base.specs.declared.block.Change.{Change}
-use Rattle.rm_catalog.specs.declared.record.PieceEntry.{PieceEntry}
-use Rattle.rm_catalog.specs.declared.record.SetEntry.{SetEntry}
+use Rattle.rm_base.specs.{Store.{Held}, declared.block.Change.{Change}}
+use Rattle.rm_catalog.specs.declared.record.{PieceEntry.{PieceEntry}, SetEntry.{SetEntry}}
 use Rattle.rm_commit.specs.declared.commit.Object.{Object}
-use Rattle.rm_catalog_typed.specs.Ledger.{Ledger}
-use Rattle.rm_evidence.specs.Names.{piece_name, set_name}
-use Rattle.rm_evidence.specs.Objects.{HasDigest, HasPieceFields, HasSetFields}
-use Rattle.rm_piece.specs.declared.piece.Piece.{Piece}
-use Rattle.rm_piece.specs.declared.set.Set.{Set}
-use Rattle.rm_piece.specs.SetSpelling.{set_spelling}
-use Rattle.rm_piece.specs.Spelling.{spelling}
-use Rattle.rm_catalog_typed.specs.Fitting.{FitsNewPiece, FitsNewSet}
-use Rattle.rm_machine.specs.Effect.{Made, a_piece, a_set}
-use Rattle.rm_machine.specs.Machine.{HasPieceArtefact, HasSetArtefact, IsBorneOut, IsTrueArtefact}
-use Rattle.rm_machine.specs.Sound.{IsSound}
-use Rattle.rm_machine.specs.declared.state.State.{State}
-use Rattle.rm_machine.specs.State.{world}
-use Rattle.rm_catalog_typed.specs.Worlds.{database_of}
-use Rattle.rm_machine.proofs.Kept.{stays-so}
-use Rattle.rm_machine.proofs.Later.{fits-with}
+use Rattle.rm_catalog_typed.specs.{Ledger.{Ledger}, Fitting.{FitsNewPiece, FitsNewSet}, Worlds.{database_of}}
+use Rattle.rm_evidence.specs.{Names.{piece_name, set_name}, Objects.{HasDigest, HasPieceFields, HasSetFields}}
+use Rattle.rm_piece.specs.{SetSpelling.{set_spelling}, Spelling.{spelling}, declared.{piece.Piece.{Piece}, set.Set.{Set}}}
+use Rattle.rm_machine.specs.{Effect.{Made, a_piece, a_set}, Machine.{HasPieceArtefact, HasSetArtefact, IsBorneOut, IsTrueArtefact}}
+use Rattle.rm_machine.{specs.{Sound.{IsSound}, State.{world}, declared.state.State.{State}}, proofs.{Kept.{stays-so}, Later.{fits-with}}}
 use Rattle.rm_machine.proofs.Pieces.{sound-recorded, sound-recorded_set, with_recorded, with_recorded_set}
 use Rattle.rm_machine_laws.proofs.NewObjects.{borne-more, piece-apart, put-there, set-apart, with_puts}
 

@@ -1,17 +1,9 @@
 -- A statement without an effect outside, or by which objects go alone.
-use Rattle.std.proofs.Common.{◌≡◌, ◌∙◌, ◌++◌, ℕ, List, [], None, refl, ap, sym, subst}
-use Rattle.std.proofs.lemmas.List.{append-nil}
-use Rattle.rm_base.specs.Store.{Held}
-use Rattle.rm_base.specs.declared.block.Change.{Change}
-use Rattle.rm_machine.specs.Effect.{Effect, LeavesObjects, Made, done, no_effect}
+use Rattle.std.proofs.{Common.{◌≡◌, ◌∙◌, ◌++◌, ℕ, List, [], None, refl, ap, sym, subst}, lemmas.List.{append-nil}}
+use Rattle.rm_base.specs.{Store.{Held}, declared.block.Change.{Change}}
+use Rattle.rm_machine.specs.{Effect.{Effect, LeavesObjects, Made, done, no_effect}, Machine.{IsBorneOut}, Sound.{IsSound}, State.{ledger}}
+use Rattle.rm_machine.{specs.{Upkeep.{removing}, declared.state.State.{State}}, proofs.{Kept.{no-effect, stand-same}, Later.{borne-beside}}}
 use Rattle.rm_report.specs.declared.line.Line.{Line}
-use Rattle.rm_machine.specs.Machine.{IsBorneOut}
-use Rattle.rm_machine.specs.Sound.{IsSound}
-use Rattle.rm_machine.specs.declared.state.State.{State}
-use Rattle.rm_machine.specs.State.{ledger}
-use Rattle.rm_machine.specs.Upkeep.{removing}
-use Rattle.rm_machine.proofs.Kept.{no-effect, stand-same}
-use Rattle.rm_machine.proofs.Later.{borne-beside}
 
 -- what stands after this effect stands after what was done
 pub landed : (q : State) (by : Effect) (h : List Change) (objects : Held) (made : List Made) (touched : List (List ℕ)) (e : Effect) (t : State) (after : Held) → by ≡ e → q ≡ t → LeavesObjects e objects after

@@ -1,33 +1,19 @@
 -- Pieces and sets are recorded, one after another.
-use Rattle.std.proofs.Common.{◌≡◌, ◌-◌, ◌∙◌, ◌++◌, ℕ, List, [], ◌∷◌, refl, sym, subst, map, slice_get, All}
-use Rattle.std.specs.Prelude.{IsSomeAnd}
-use Rattle.std.proofs.lemmas.List.{append-nil, append_assoc}
-use Rattle.std.proofs.lemmas.List.Elements.{All-head, All-map, All-tail}
-use Rattle.rm_base.specs.Store.{Held}
-use Rattle.rm_base.specs.declared.block.Change.{Change}
+use Rattle.std.{specs.Prelude.{IsSomeAnd}, proofs.Common.{◌≡◌, ◌-◌, ◌∙◌, ◌++◌, ℕ, List, [], ◌∷◌, refl, sym, subst, map, slice_get, All}}
+use Rattle.std.proofs.lemmas.List.{append-nil, append_assoc, Elements.{All-head, All-map, All-tail}}
+use Rattle.rm_base.specs.{Store.{Held}, declared.block.Change.{Change}}
 use Rattle.rm_commit.specs.Names.{HasPuts}
 use Rattle.rm_evidence.specs.Objects.{AreParts, HasSetFields, IsAsCreated}
 use Rattle.rm_history.specs.declared.world.World.{World}
-use Rattle.rm_piece.specs.declared.set.Set.{Set}
-use Rattle.rm_piece.specs.declared.set.SetFile.{SetFile}
-use Rattle.rm_piece.specs.Sets.{IsSet}
+use Rattle.rm_piece.specs.{Sets.{IsSet}, declared.set.{Set.{Set}, SetFile.{SetFile}}}
 use Rattle.rm_lang_statement.specs.declared.command.BackupForm.{BackupForm}
-use Rattle.rm_machine.specs.Backup.{part_of}
-use Rattle.rm_machine.specs.Effect.{Made, a_piece, a_set}
-use Rattle.rm_machine.specs.Machine.{IsBorneOut, IsTrueArtefact}
+use Rattle.rm_machine.specs.{Backup.{part_of}, Effect.{Made, a_piece, a_set}, Machine.{IsBorneOut, IsTrueArtefact}}
 use Rattle.rm_machine.specs.MadeObjects.{CanRecord, IsRecordable, Packed, after_objects, alone, in_set, object_made, object_put, objects_made, objects_put}
-use Rattle.rm_machine.specs.MadePieces.{Copied, entry_for}
-use Rattle.rm_machine.specs.MadeSets.{InSet, set_entry_for, set_of}
-use Rattle.rm_machine.specs.Sound.{IsSound}
-use Rattle.rm_machine.specs.declared.state.State.{State}
-use Rattle.rm_machine.specs.State.{ledger, world}
+use Rattle.rm_machine.specs.{MadePieces.{Copied, entry_for}, MadeSets.{InSet, set_entry_for, set_of}, Sound.{IsSound}}
+use Rattle.rm_machine.{specs.{State.{ledger, world}, declared.state.State.{State}}, proofs.{Copies.{OfEach}, Kept.{stand-same}}}
+use Rattle.rm_machine.proofs.{Later.{borne-beside}, Recording.{can-next, next, next-fits, next-sound, next-stays}}
 use Rattle.rm_catalog_typed.specs.Worlds.{database_of}
-use Rattle.rm_machine.proofs.Copies.{OfEach}
-use Rattle.rm_machine.proofs.Kept.{stand-same}
-use Rattle.rm_machine.proofs.Later.{borne-beside}
-use Rattle.rm_machine.proofs.Recording.{can-next, next, next-fits, next-sound, next-stays}
-use Rattle.rm_machine_laws.proofs.NewObjects.{puts-rest, with_puts}
-use Rattle.rm_machine_laws.proofs.Pieces.{borne-recorded, borne-recorded_set}
+use Rattle.rm_machine_laws.proofs.{NewObjects.{puts-rest, with_puts}, Pieces.{borne-recorded, borne-recorded_set}}
 
 -- what is shown of a member of a set: it is true as a piece, and of its datafile as that was created
 pub record IsTrueMember (w : World) (h : List Change) (m : SetFile) : Type 0 where

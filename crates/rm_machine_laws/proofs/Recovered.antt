@@ -1,37 +1,21 @@
 -- RECOVER DATABASE leads on, and its test tells: what is determined is what the history made.
 use Rattle.std.proofs.Common.{◌≡◌, ◌≤◌, ◌+◌, ◌∙◌, ◌++◌, inl, inr, ℕ, List, Option, Some, None, true, refl, ap, sym, subst, arith, slice_get}
 use Rattle.std.proofs.lemmas.List.Elements.{All-contains}
-use Rattle.rm_base.specs.Store.{Held}
-use Rattle.rm_base.specs.declared.block.Change.{Change}
-use Rattle.rm_base.specs.declared.block.Row.{Row}
+use Rattle.rm_base.specs.{Store.{Held}, declared.block.{Change.{Change}, Row.{Row}}}
 use Rattle.rm_blocks.specs.File.{File, base_of}
-use Rattle.rm_lang_statement.specs.declared.command.Command.TheVariants.{Recover, RecoverTest}
-use Rattle.rm_lang_statement.specs.declared.command.Until.{Until}
-use Rattle.rm_evidence.specs.declared.evidence.Evidence.{Evidence}
-use Rattle.rm_evidence.specs.Known.{FitsTree, known_of}
+use Rattle.rm_lang_statement.specs.declared.command.{Command.TheVariants.{Recover, RecoverTest}, Until.{Until}}
+use Rattle.rm_evidence.specs.{Known.{FitsTree, known_of}, declared.evidence.Evidence.{Evidence}}
 use Rattle.rm_apply.specs.Told.{AreFilesAt}
-use Rattle.rm_history.specs.declared.world.Datafile.{Datafile}
-use Rattle.rm_history.specs.Agrees.{BaseAgrees}
-use Rattle.rm_history.specs.State.{state}
-use Rattle.rm_history.specs.World.{exists}
-use Rattle.rm_history.specs.Evidence as known
+use Rattle.rm_history.specs.{Evidence as known, Agrees.{BaseAgrees}, State.{state}, World.{exists}, declared.world.Datafile.{Datafile}}
 use Rattle.rm_report.specs.declared.line.Line.{Line}
-use Rattle.rm_machine.specs.Effect.{Effect, LeavesObjects, Made, done, told}
-use Rattle.rm_machine.specs.Machine.{DigestsTellFor, HistoryFits, IsBorneOut, RowsAre}
+use Rattle.rm_machine.specs.{Effect.{Effect, LeavesObjects, Made, done, told}, Machine.{DigestsTellFor, HistoryFits, IsBorneOut, RowsAre}}
 use Rattle.rm_machine.specs.Recover.{BringsTo, RecoversTo, recovered, recover_refusal, recover_target}
-use Rattle.rm_machine.specs.RecoverTest.{TellsTo, TestsTo, test_target, tested}
-use Rattle.rm_machine.specs.Recovery.{put_over}
-use Rattle.rm_machine.specs.Sound.{IsSound}
-use Rattle.rm_machine.specs.declared.state.State.{State}
-use Rattle.rm_machine.specs.State.{ledger, tree, world, current_of}
-use Rattle.rm_machine_laws.proofs.Agreeing.{evidence-agrees}
-use Rattle.rm_machine_laws.proofs.Exchanging.{fits-exchanged}
-use Rattle.rm_machine_laws.proofs.Leading.{LeadsOnBy, StaysBy, TellsOnBy}
-use Rattle.rm_machine.proofs.Placing.{over-length}
-use Rattle.rm_machine_laws.proofs.Quiet.{quiet-on, quiet-stays}
+use Rattle.rm_machine.specs.{RecoverTest.{TellsTo, TestsTo, test_target, tested}, Recovery.{put_over}, Sound.{IsSound}}
+use Rattle.rm_machine.{specs.{State.{ledger, tree, world, current_of}, declared.state.State.{State}}, proofs.Placing.{over-length}}
 use Rattle.rm_machine.proofs.Recovering.{CameBack, CanRecover, can-recover, comes, sound-recovered, stands}
 use Rattle.rm_machine.proofs.Told.{tells-files, tells-fits}
-use Rattle.rm_machine_laws.proofs.Told.{files-made, told-states}
+use Rattle.rm_machine_laws.proofs.{Agreeing.{evidence-agrees}, Exchanging.{fits-exchanged}, Leading.{LeadsOnBy, StaysBy, TellsOnBy}}
+use Rattle.rm_machine_laws.proofs.{Quiet.{quiet-on, quiet-stays}, Told.{files-made, told-states}}
 
 module _ (s : State) (h : List Change) (e : Evidence) (at : ℕ) (files : List File) (sound : IsSound s) (keeps : HistoryFits s h) (fits : FitsTree (tree s) e) (can : CanRecover s at)
     (agrees : known.Agrees (world s) h (known_of e)) (told : AreFilesAt (world s) (known_of e) (current_of s) at files) where

@@ -1,69 +1,31 @@
 -- RECOVER COPY leads on: what is at hand makes of a copy one that can be recorded, and that agrees with the history.
 use Rattle.std.proofs.Common.{◌≡◌, ◌≢◌, ◌<◌, ◌≤◌, ◌-◌, ◌+◌, ◌∙◌, ◌++◌, ℕ, List, Option, Some, None, Bool, true, false, refl, ap, sym, subst, arith, slice_get, All, Contains}
-use Rattle.std.proofs.lemmas.List.Elements.{All-contains}
-use Rattle.std.proofs.lemmas.Option.{same_Some, slice_get_within}
-use Rattle.rm_base.specs.Store.{Held}
-use Rattle.rm_base.specs.declared.block.Change.{Change}
-use Rattle.rm_base.specs.declared.kinds.Kind.TheVariants.{Level1}
-use Rattle.rm_base.proofs.Sealing.{length-sealed}
-use Rattle.rm_backup.specs.declared.renewing.Renewed.{Renewed}
-use Rattle.rm_backup.specs.Level1s.{IsReached, next}
-use Rattle.rm_backup.specs.Records.{pieces}
-use Rattle.rm_backup.specs.Renewed.{IsMerged, IsRenewed, TakesOver, copy_at}
-use Rattle.rm_backup.proofs.AtHand.{copy_at_hand}
-use Rattle.rm_backup.proofs.Chained.{reached_agrees, reached_valid}
-use Rattle.rm_catalog.specs.declared.record.PieceEntry.{PieceEntry}
-use Rattle.rm_catalog.specs.declared.record.Record.{Record}
-use Rattle.rm_catalog.specs.Objects.{IsTag}
-use Rattle.rm_catalog.specs.Rules.{IsCatalog}
-use Rattle.rm_catalog.specs.Trees.{nodes}
-use Rattle.rm_evidence.specs.declared.evidence.Evidence.{Evidence}
-use Rattle.rm_evidence.specs.Available.{HasPieceObject}
-use Rattle.rm_evidence.specs.Known.{FitsPiece}
-use Rattle.rm_history.specs.declared.world.Datafile.{Datafile}
-use Rattle.rm_history.specs.Tree.{IsThere, IsTree, end_of, owner}
-use Rattle.rm_history.proofs.Highs.{high-least}
-use Rattle.rm_catalog_typed.specs.LedgerFacts.{IsPieceEntry, IsSetEntry, IsSetPart}
+use Rattle.std.proofs.lemmas.{List.Elements.{All-contains}, Option.{same_Some, slice_get_within}}
+use Rattle.rm_base.{specs.{Store.{Held}, declared.{block.Change.{Change}, kinds.Kind.TheVariants.{Level1}}}, proofs.Sealing.{length-sealed}}
+use Rattle.rm_backup.specs.{Level1s.{IsReached, next}, Records.{pieces}, Renewed.{IsMerged, IsRenewed, TakesOver, copy_at}}
+use Rattle.rm_backup.{specs.declared.renewing.Renewed.{Renewed}, proofs.{AtHand.{copy_at_hand}, Chained.{reached_agrees, reached_valid}}}
+use Rattle.rm_catalog.specs.{Objects.{IsTag}, Rules.{IsCatalog}, Trees.{nodes}, declared.record.{PieceEntry.{PieceEntry}, Record.{Record}}}
+use Rattle.rm_evidence.specs.{Available.{HasPieceObject}, Known.{FitsPiece}, Names.{roll_name, site_name}, Objects.{piece_entry}}
+use Rattle.rm_evidence.{specs.declared.evidence.Evidence.{Evidence}, proofs.{DatabaseWorlds.{is-tree}, Parts.{part-of}}}
+use Rattle.rm_history.{specs.{Tree.{IsThere, IsTree, end_of, owner}, declared.world.Datafile.{Datafile}}, proofs.Highs.{high-least}}
+use Rattle.rm_catalog_typed.specs.{LedgerFacts.{IsPieceEntry, IsSetEntry, IsSetPart}, TypedCatalog.{records_of}}
+use Rattle.rm_catalog_typed.proofs.{Members.{piece-has}, Valid.{typed_catalog-valid}, Records.{database-told, pieces-told, tree-told}}
 use Rattle.rm_merge.specs.Merge.{merged}
-use Rattle.rm_evidence.specs.Names.{roll_name, site_name}
-use Rattle.rm_evidence.proofs.DatabaseWorlds.{is-tree}
-use Rattle.rm_evidence.proofs.Parts.{part-of}
-use Rattle.rm_evidence.specs.Objects.{piece_entry}
-use Rattle.rm_piece.specs.declared.piece.Piece.{Piece}
-use Rattle.rm_piece.specs.Sets.{IsMember}
-use Rattle.rm_piece.specs.Spelling.{body_of}
-use Rattle.rm_piece.specs.Valid.{IsPiece}
-use Rattle.rm_piece.proofs.Bodies.{length-body}
-use Rattle.rm_piece.proofs.Fitting.{few_rows, fits as fits-piece}
+use Rattle.rm_piece.specs.{Sets.{IsMember}, Spelling.{body_of}, Valid.{IsPiece}, declared.piece.Piece.{Piece}}
+use Rattle.rm_piece.proofs.{Bodies.{length-body}, Fitting.{few_rows, fits as fits-piece}}
 use Rattle.rm_report.specs.declared.line.Line.{Line}
-use Rattle.rm_catalog_typed.specs.TypedCatalog.{records_of}
-use Rattle.rm_catalog_typed.proofs.Members.{piece-has}
-use Rattle.rm_catalog_typed.proofs.Valid.{typed_catalog-valid}
-use Rattle.rm_lang_statement.specs.declared.command.Command.TheVariants.{RecoverCopy}
-use Rattle.rm_lang_statement.specs.declared.command.Until.{Until}
-use Rattle.rm_machine.specs.Effect.{Effect, LeavesObjects, Made, a_piece, done}
-use Rattle.rm_machine.specs.Machine.{DigestsTellFor, IsBorneOut, IsTrueArtefact}
-use Rattle.rm_machine.specs.Names.{IsObjectName}
-use Rattle.rm_machine.specs.Recover.{recover_target}
+use Rattle.rm_lang_statement.specs.declared.command.{Command.TheVariants.{RecoverCopy}, Until.{Until}}
+use Rattle.rm_machine.specs.{Effect.{Effect, LeavesObjects, Made, a_piece, done}, Machine.{DigestsTellFor, IsBorneOut, IsTrueArtefact}}
+use Rattle.rm_machine.specs.{Names.{IsObjectName}, Recover.{recover_target}}
 use Rattle.rm_machine.specs.RecoverCopy.{AreRenewed, RenewsTo, after_copies, changed, copies_gone, renewed_refusal, renewing}
-use Rattle.rm_machine.specs.Recovery.{IsAtHand, in_place}
-use Rattle.rm_machine.specs.Sound.{IsSound}
-use Rattle.rm_machine.specs.declared.state.State.{State}
-use Rattle.rm_machine.specs.State.{ledger, tree, world}
-use Rattle.rm_machine_laws.proofs.Agreeing.{base-by, level1-by}
-use Rattle.rm_machine_laws.proofs.AtHand.{BackupFrom, from_copy, from_piece, from_set, level1-from}
-use Rattle.rm_machine_laws.proofs.BackingUpLogs.{done-of}
-use Rattle.rm_machine_laws.proofs.Deleting.{stand-without}
-use Rattle.rm_machine.proofs.Later.{borne-beside}
-use Rattle.rm_machine_laws.proofs.Leading.{LeadsOnBy, StaysBy}
-use Rattle.rm_machine.proofs.Merges.{EndsIn, IsLast, KeepsOn, last-merge, reached-keeps}
-use Rattle.rm_machine_laws.proofs.OldCopies.{IsNewCopy, copies-new, old-free, old-no-part, old-no-roll}
-use Rattle.rm_catalog_typed.proofs.Records.{database-told, pieces-told, tree-told}
-use Rattle.rm_machine.proofs.Renewing.{CanRenew, CanRenewAll, CanRenewTo, copy-kind, ids-left, renewed-apart}
-use Rattle.rm_machine_laws.proofs.Renewing.{IsTrueTo, renewals-borne, renewals-next, renewals-saved, renewals-sound}
-use Rattle.rm_machine.proofs.Standing.{each-in}
-use Rattle.rm_machine_laws.proofs.Quiet.{unchanged}
+use Rattle.rm_machine.specs.{Recovery.{IsAtHand, in_place}, Sound.{IsSound}, State.{ledger, tree, world}, declared.state.State.{State}}
+use Rattle.rm_machine.proofs.{Later.{borne-beside}, Merges.{EndsIn, IsLast, KeepsOn, last-merge, reached-keeps}}
+use Rattle.rm_machine.proofs.{Renewing.{CanRenew, CanRenewAll, CanRenewTo, copy-kind, ids-left, renewed-apart}, Standing.{each-in}}
 use Rattle.rm_machine.proofs.Restoring.{entry-rows}
+use Rattle.rm_machine_laws.proofs.{Agreeing.{base-by, level1-by}, AtHand.{BackupFrom, from_copy, from_piece, from_set, level1-from}}
+use Rattle.rm_machine_laws.proofs.{BackingUpLogs.{done-of}, Deleting.{stand-without}, Leading.{LeadsOnBy, StaysBy}}
+use Rattle.rm_machine_laws.proofs.OldCopies.{IsNewCopy, copies-new, old-free, old-no-part, old-no-roll}
+use Rattle.rm_machine_laws.proofs.{Renewing.{IsTrueTo, renewals-borne, renewals-next, renewals-saved, renewals-sound}, Quiet.{unchanged}}
 
 module _ (s : State) (held : Held) (sound : IsSound s) (e : Evidence) (at_hand : IsAtHand s held e) where
   abbrev rs : List Record

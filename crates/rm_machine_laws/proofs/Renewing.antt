@@ -1,34 +1,22 @@
 -- RECOVER COPY: a changed copy has a record of its own, and the old record goes.
-use Rattle.std.proofs.Common.{◌≡◌, ◌<◌, ◌≤◌, ◌+◌, ◌∙◌, ◌++◌, ℕ, List, [], ◌∷◌, Option, Some, None, true, refl, sym, subst, arith, length, All}
 use Rattle.std.specs.Option.{option_map_or}
-use Rattle.std.proofs.lemmas.List.{append-nil, append_assoc}
-use Rattle.std.proofs.lemmas.List.Elements.{All-head, All-tail}
-use Rattle.rm_base.specs.Store.{Held}
-use Rattle.rm_base.specs.declared.block.Change.{Change}
+use Rattle.std.proofs.Common.{◌≡◌, ◌<◌, ◌≤◌, ◌+◌, ◌∙◌, ◌++◌, ℕ, List, [], ◌∷◌, Option, Some, None, true, refl, sym, subst, arith, length, All}
+use Rattle.std.proofs.lemmas.List.{append-nil, append_assoc, Elements.{All-head, All-tail}}
+use Rattle.rm_base.specs.{Store.{Held}, declared.block.Change.{Change}}
 use Rattle.rm_backup.specs.declared.renewing.Renewed.{Renewed}
 use Rattle.rm_catalog.specs.declared.record.PieceEntry.{PieceEntry}
-use Rattle.rm_commit.specs.declared.commit.Object.{Object}
-use Rattle.rm_commit.specs.Names.{HasPuts}
+use Rattle.rm_commit.specs.{Names.{HasPuts}, declared.commit.Object.{Object}}
 use Rattle.rm_history.specs.declared.world.World.{World}
 use Rattle.rm_evidence.specs.Names.{piece_name}
-use Rattle.rm_piece.specs.declared.piece.Piece.{Piece}
-use Rattle.rm_piece.specs.Spelling.{spelling}
-use Rattle.rm_catalog_typed.specs.Changes.{without_piece}
-use Rattle.rm_catalog_typed.specs.Fitting.{FitsNewPiece}
-use Rattle.rm_machine.specs.Effect.{Made, a_piece}
-use Rattle.rm_machine.specs.Machine.{IsBorneOut, IsTrueArtefact}
-use Rattle.rm_machine.specs.RecoverCopy.{after_copies, after_copy, changed, copies_made, copies_put}
-use Rattle.rm_machine.specs.Sound.{IsSound}
-use Rattle.rm_machine.specs.declared.state.State.{State}
-use Rattle.rm_machine.specs.State.{ledger, world}
-use Rattle.rm_machine.proofs.Entries.{GoesOn}
-use Rattle.rm_machine.proofs.Kept.{stand-same}
-use Rattle.rm_machine.proofs.Later.{borne-beside}
-use Rattle.rm_machine.proofs.Pieces.{with_recorded}
-use Rattle.rm_machine_laws.proofs.Pieces.{borne-recorded, object_of}
-use Rattle.rm_machine_laws.proofs.NewObjects.{puts-rest, with_puts}
+use Rattle.rm_piece.specs.{Spelling.{spelling}, declared.piece.Piece.{Piece}}
+use Rattle.rm_catalog_typed.specs.{Changes.{without_piece}, Fitting.{FitsNewPiece}}
+use Rattle.rm_machine.specs.{Effect.{Made, a_piece}, Machine.{IsBorneOut, IsTrueArtefact}}
+use Rattle.rm_machine.specs.{RecoverCopy.{after_copies, after_copy, changed, copies_made, copies_put}, Sound.{IsSound}}
+use Rattle.rm_machine.{specs.{State.{ledger, world}, declared.state.State.{State}}, proofs.{Entries.{GoesOn}, Kept.{stand-same}}}
+use Rattle.rm_machine.proofs.{Later.{borne-beside}, Pieces.{with_recorded}}
 use Rattle.rm_machine.proofs.Renewing.{CanRenew, CanRenewAll, CanRenewTo, count-changed, drawn, first-can, first-room, next-to, renewed_to, rest-can, sound-to}
 use Rattle.rm_machine.proofs.Renewing as shared
+use Rattle.rm_machine_laws.proofs.{Pieces.{borne-recorded, object_of}, NewObjects.{puts-rest, with_puts}}
 
 -- One copy
 

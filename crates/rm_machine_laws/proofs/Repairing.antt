@@ -1,71 +1,33 @@
 -- BLOCKRECOVER leads on: the damaged blocks that are asked for come to be what the history has, while writers write.
+use Rattle.std.specs.{List.{list_any}, Option.{option_and_then, option_map_or}}
 use Rattle.std.proofs.Common.{◌≡◌, ◌-◌, ◌∙◌, ◌++◌, ◌==◌, ◌&&◌, ◌⊎◌, not, inl, inr, ℕ, List, [], ◌∷◌, Option, Some, None, Bool, true, false, filter, refl, ap, sym, subst, arith, get_or, length, map, All, Contains, slice_get}
-use Rattle.std.specs.List.{list_any}
-use Rattle.std.specs.Option.{option_and_then, option_map_or}
-use Rattle.std.proofs.lemmas.Bool.{and_from, and_parts, cases_Bool}
-use Rattle.std.proofs.lemmas.List.{append-nil}
-use Rattle.std.proofs.lemmas.List.Elements.{All-contains, All-weaker}
+use Rattle.std.proofs.lemmas.{Bool.{and_from, and_parts, cases_Bool}, List.{append-nil, Elements.{All-contains, All-weaker}}}
 use Rattle.std.proofs.lemmas.Option.{slice_get-get_or}
-use Rattle.rm_base.specs.Store.{Held}
-use Rattle.rm_base.specs.declared.block.BlockId.{BlockId}
-use Rattle.rm_base.specs.declared.block.Change.{Change}
-use Rattle.rm_base.specs.declared.block.Row.{Row}
-use Rattle.rm_base.proofs.Lists.{any_fails, any_from, any_to, filter_from, filter_to}
-use Rattle.rm_base.proofs.Slots.{all-get}
+use Rattle.rm_base.specs.{Store.{Held}, declared.block.{BlockId.{BlockId}, Change.{Change}, Row.{Row}}}
+use Rattle.rm_base.proofs.{Lists.{any_fails, any_from, any_to, filter_from, filter_to}, Slots.{all-get}}
 use Rattle.rm_blocks.specs.File.{File}
 use Rattle.rm_catalog.proofs.Filters.{filter_none}
-use Rattle.rm_catalog_typed.specs.TypedCatalog.{records_of}
-use Rattle.rm_catalog_typed.proofs.Valid.{typed_catalog-valid}
+use Rattle.rm_catalog_typed.{specs.TypedCatalog.{records_of}, proofs.{Valid.{typed_catalog-valid}, Records.{tree-told}}}
 use Rattle.rm_channel.specs.Made.{AreThese, deed}
-use Rattle.rm_evidence.specs.declared.evidence.Evidence.{Evidence}
-use Rattle.rm_evidence.specs.Known.{FitsTree, known_of}
-use Rattle.rm_evidence.proofs.Fitting.{gathered-fits}
-use Rattle.rm_history.specs.declared.tree.Incarnation.{Incarnation}
-use Rattle.rm_history.specs.Evidence as known
-use Rattle.rm_history.specs.State.{state}
-use Rattle.rm_lang_statement.specs.declared.command.BackupForm.{BackupForm}
-use Rattle.rm_lang_statement.specs.declared.command.Command.TheVariants.{BlockRecover}
-use Rattle.rm_lang_statement.specs.declared.command.NamedBlocks.{NamedBlocks}
-use Rattle.rm_lang_statement.specs.declared.command.RepairForm.{RepairForm}
+use Rattle.rm_evidence.{specs.{Known.{FitsTree, known_of}, declared.evidence.Evidence.{Evidence}}, proofs.Fitting.{gathered-fits}}
+use Rattle.rm_history.specs.{Evidence as known, State.{state}, declared.tree.Incarnation.{Incarnation}}
+use Rattle.rm_lang_statement.specs.declared.command.{BackupForm.{BackupForm}, Command.TheVariants.{BlockRecover}, NamedBlocks.{NamedBlocks}}
+use Rattle.rm_lang_statement.specs.declared.command.{RepairForm.{RepairForm}, WriteForm.{WriteForm}}
 use Rattle.rm_report.specs.declared.line.Line.{Line}
-use Rattle.rm_lang_statement.specs.declared.command.WriteForm.{WriteForm}
-use Rattle.rm_live.specs.declared.history.Event.{Event}
-use Rattle.rm_live.specs.History.{IsLegal, after}
-use Rattle.rm_live.specs.Parts.{Parts}
+use Rattle.rm_live.specs.{History.{IsLegal, after}, Parts.{Parts}, declared.history.Event.{Event}}
 use Rattle.rm_plan.specs.Blocks.{AreToldRows}
-use Rattle.rm_machine.specs.Asked.{asked}
-use Rattle.rm_machine.specs.BlockRecover.{MendsBlocks, MissesBlock, asks_for, blocks_mended, repair_begun, without_mended}
-use Rattle.rm_machine.specs.Damage.{IsInPlace, has_block}
-use Rattle.rm_machine.specs.Effect.{Effect, Made, done, no_effect}
-use Rattle.rm_machine.specs.Events.{after_events, changes_of, opening}
-use Rattle.rm_machine.specs.Machine.{IsBorneOut}
-use Rattle.rm_machine.specs.Recovery.{IsAtHand, in_place}
-use Rattle.rm_machine.specs.Repair.{RepairsSoFar, RepairsTruly, is_mended}
-use Rattle.rm_machine.specs.Sound.{IsSound}
-use Rattle.rm_machine.specs.Step.{IsDone}
-use Rattle.rm_machine.specs.declared.state.State.{State}
-use Rattle.rm_machine.specs.State.{current_of, ledger, now_of, placed, world}
-use Rattle.rm_machine.proofs.BackupMarks.{borne-marked, marked-same}
-use Rattle.rm_machine.proofs.Damaged.{with_list}
-use Rattle.rm_machine.proofs.Fitting.{place-fits}
-use Rattle.rm_machine.proofs.Kept.{stand-same}
-use Rattle.rm_machine.proofs.Later.{borne-beside}
-use Rattle.rm_machine.proofs.Mending.{AreDue, CanMend, Patch, can-events}
-use Rattle.rm_machine.proofs.Places.{placed-is}
-use Rattle.rm_machine.proofs.Putting.{sound-fewer}
-use Rattle.rm_catalog_typed.proofs.Records.{tree-told}
-use Rattle.rm_machine.proofs.RepairAccepted.{CanRepair, can-repair}
-use Rattle.rm_machine.proofs.Repaired.{marking}
-use Rattle.rm_machine.proofs.Repaired as shared
-use Rattle.rm_machine.proofs.Repairs.{IsOfBlock, block-patched, due-front, due-mended, mended-due, patches, wanted}
-use Rattle.rm_machine.proofs.Standing.{each-in}
-use Rattle.rm_machine.proofs.ToldRows.{CanStand, IsTargetNow, in-place-target, told-stand}
-use Rattle.rm_machine.proofs.Walk.{CanGoOn, events-same}
-use Rattle.rm_machine_laws.proofs.Agreeing.{evidence-agrees}
-use Rattle.rm_machine_laws.proofs.DamagedLists.{any-fewer, is-block, same-block}
-use Rattle.rm_machine_laws.proofs.Leading.{LeadsOnBy, StaysBy}
-use Rattle.rm_machine_laws.proofs.Mended.{Knows, KnowsRows, knows-events, left, left-from, row-events}
-use Rattle.rm_machine_laws.proofs.Quiet.{landed, same-stays}
+use Rattle.rm_machine.specs.{Asked.{asked}, BlockRecover.{MendsBlocks, MissesBlock, asks_for, blocks_mended, repair_begun, without_mended}}
+use Rattle.rm_machine.specs.{Damage.{IsInPlace, has_block}, Effect.{Effect, Made, done, no_effect}}
+use Rattle.rm_machine.specs.{Events.{after_events, changes_of, opening}, Machine.{IsBorneOut}, Recovery.{IsAtHand, in_place}}
+use Rattle.rm_machine.specs.{Repair.{RepairsSoFar, RepairsTruly, is_mended}, Sound.{IsSound}, Step.{IsDone}}
+use Rattle.rm_machine.specs.{State.{current_of, ledger, now_of, placed, world}, declared.state.State.{State}}
+use Rattle.rm_machine.proofs.{BackupMarks.{borne-marked, marked-same}, Damaged.{with_list}, Fitting.{place-fits}, Kept.{stand-same}}
+use Rattle.rm_machine.proofs.{Later.{borne-beside}, Mending.{AreDue, CanMend, Patch, can-events}, Places.{placed-is}, Putting.{sound-fewer}}
+use Rattle.rm_machine.proofs.{Repaired as shared, RepairAccepted.{CanRepair, can-repair}, Repaired.{marking}}
+use Rattle.rm_machine.proofs.{Repairs.{IsOfBlock, block-patched, due-front, due-mended, mended-due, patches, wanted}, Standing.{each-in}}
+use Rattle.rm_machine.proofs.{ToldRows.{CanStand, IsTargetNow, in-place-target, told-stand}, Walk.{CanGoOn, events-same}}
+use Rattle.rm_machine_laws.proofs.{Agreeing.{evidence-agrees}, DamagedLists.{any-fewer, is-block, same-block}, Leading.{LeadsOnBy, StaysBy}}
+use Rattle.rm_machine_laws.proofs.{Mended.{Knows, KnowsRows, knows-events, left, left-from, row-events}, Quiet.{landed, same-stays}}
 
 -- a front of legal events is legal
 legal-front : (es rest : List Event) (p : Parts) → IsLegal p (es ++ rest) → IsLegal p es

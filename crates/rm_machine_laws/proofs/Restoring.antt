@@ -1,26 +1,15 @@
 -- RESTORE leads on: each datafile comes to stand in place as a backup has it, or as it was created.
 use Rattle.std.proofs.Common.{◌≡◌, ◌++◌, inl, inr, ℕ, List, Option, Some, None, false}
-use Rattle.rm_base.specs.Store.{Held}
-use Rattle.rm_base.specs.declared.block.Change.{Change}
+use Rattle.rm_base.{specs.{Store.{Held}, declared.block.Change.{Change}}, proofs.Conditions.{unless}}
 use Rattle.rm_apply.proofs.Agreeing.{restored-agrees}
 use Rattle.rm_report.specs.declared.line.Line.{Line}
-use Rattle.rm_lang_statement.specs.declared.command.Command.TheVariants.{Restore}
-use Rattle.rm_lang_statement.specs.declared.command.Until.{Until}
-use Rattle.rm_machine.specs.Effect.{Effect, LeavesObjects, Made, done}
-use Rattle.rm_machine.specs.Machine.{DigestsTellFor, IsBorneOut}
-use Rattle.rm_machine.specs.Recover.{recover_target}
-use Rattle.rm_machine.specs.Recovery.{put_over}
-use Rattle.rm_machine.specs.Restore.{RestoresTo, restore_refusal, restored}
-use Rattle.rm_machine.specs.Sound.{IsSound}
-use Rattle.rm_machine.specs.declared.state.State.{State}
-use Rattle.rm_machine.specs.State.{current_of, ledger, world}
-use Rattle.rm_machine_laws.proofs.Agreeing.{evidence-agrees}
-use Rattle.rm_machine_laws.proofs.Exchanging.{fits-exchanged}
-use Rattle.rm_machine_laws.proofs.Leading.{LeadsOnBy, StaysBy}
-use Rattle.rm_machine.proofs.Placing.{over-cases, over-length}
-use Rattle.rm_machine_laws.proofs.Quiet.{quiet-on, quiet-stays}
-use Rattle.rm_base.proofs.Conditions.{unless}
+use Rattle.rm_lang_statement.specs.declared.command.{Command.TheVariants.{Restore}, Until.{Until}}
+use Rattle.rm_machine.specs.{Effect.{Effect, LeavesObjects, Made, done}, Machine.{DigestsTellFor, IsBorneOut}, Recover.{recover_target}}
+use Rattle.rm_machine.specs.{Recovery.{put_over}, Restore.{RestoresTo, restore_refusal, restored}, Sound.{IsSound}}
+use Rattle.rm_machine.{specs.{State.{current_of, ledger, world}, declared.state.State.{State}}, proofs.Placing.{over-cases, over-length}}
 use Rattle.rm_machine.proofs.Restoring.{are-restored, sound-restored}
+use Rattle.rm_machine_laws.proofs.{Agreeing.{evidence-agrees}, Exchanging.{fits-exchanged}, Leading.{LeadsOnBy, StaysBy}}
+use Rattle.rm_machine_laws.proofs.Quiet.{quiet-on, quiet-stays}
 
 -- where it was not refused the database is mounted
 can-restore : (s : State) (file : Option ℕ) (until : Option Until) → restore_refusal s file until ≡ None → s.instance.is_open ≡ false

@@ -1,36 +1,22 @@
 -- BACKUP INCREMENTAL FROM SCN leads on: its object comes to stand under a name that no record has, an id is drawn, and the current bitmaps
 -- end. The increment holds what changed since its SCN.
-use Rattle.std.proofs.Common.{◌≡◌, ◌≢◌, ◌<◌, ◌^◌, ◌∙◌, inl, ℕ, List, [], Some, refl, sym, subst, arith}
-use Rattle.std.proofs.lemmas.Fmt.{decimal_injective}
-use Rattle.std.proofs.lemmas.List.{append-nil, append_cancel_left}
-use Rattle.std.proofs.lemmas.List.Elements.{All-cons, All-nil}
-use Rattle.std.specs.Fmt.{decimal}
-use Rattle.std.specs.Prelude.{codes}
-use Rattle.rm_base.specs.Store.{Held}
-use Rattle.rm_base.specs.declared.block.Change.{Change}
+use Rattle.std.specs.{Fmt.{decimal}, Prelude.{codes}}
+use Rattle.std.proofs.{Common.{◌≡◌, ◌≢◌, ◌<◌, ◌^◌, ◌∙◌, inl, ℕ, List, [], Some, refl, sym, subst, arith}, lemmas.Fmt.{decimal_injective}}
+use Rattle.std.proofs.lemmas.List.{append-nil, append_cancel_left, Elements.{All-cons, All-nil}}
+use Rattle.rm_base.specs.{Store.{Held}, declared.block.Change.{Change}}
 use Rattle.rm_commit.specs.declared.commit.Object.{Object}
 use Rattle.rm_catalog_typed.specs.Ledger.{Ledger}
-use Rattle.rm_evidence.specs.Names.{roll_name}
-use Rattle.rm_evidence.proofs.Names.{log-no-roll, piece-no-roll, roll-no-site, set-no-roll}
+use Rattle.rm_evidence.{specs.Names.{roll_name}, proofs.Names.{log-no-roll, piece-no-roll, roll-no-site, set-no-roll}}
 use Rattle.rm_lang_statement.specs.declared.command.Command.TheVariants.{BackupFrom}
-use Rattle.rm_machine.specs.BackupOutcome.{begun}
-use Rattle.rm_machine.specs.Effect.{Effect, LeavesObjects, Made}
-use Rattle.rm_machine.specs.Machine.{IsBorneOut}
+use Rattle.rm_machine.specs.{BackupOutcome.{begun}, Effect.{Effect, LeavesObjects, Made}, Machine.{IsBorneOut}}
 use Rattle.rm_machine.specs.Names.{IsObjectName, of_log, of_piece, of_set}
-use Rattle.rm_machine.specs.Roll.{after_roll, of_all, roll_effect, roll_object, with_next_id}
-use Rattle.rm_machine.specs.declared.state.State.{State}
-use Rattle.rm_machine.specs.State.{ledger}
-use Rattle.rm_machine.proofs.Kept.{stand-where}
-use Rattle.rm_machine.proofs.Later.{borne-with}
+use Rattle.rm_machine.specs.{Roll.{after_roll, of_all, roll_effect, roll_object, with_next_id}, State.{ledger}}
+use Rattle.rm_machine.{specs.declared.state.State.{State}, proofs.{Kept.{stand-where}, Later.{borne-with}}}
 use Rattle.rm_machine.proofs.Rolling.{CanRoll, begun-all, can-roll, sound-rolled}
 use Rattle.rm_machine_laws.specs.Loose.{IsLoose, IsNamedBy, IsOfId, StaysLoose, is_log, is_piece, is_roll, is_set, of_object, of_part}
-use Rattle.rm_machine_laws.proofs.Increments.{holds-since}
-use Rattle.rm_machine_laws.proofs.Leading.{LeadsOnBy, StaysBy}
-use Rattle.rm_machine_laws.proofs.LooseNew.{AreNew, IsFree, IsNewName, above, new-loose}
-use Rattle.rm_machine_laws.proofs.LooseQuiet.{loose-done}
-use Rattle.rm_machine_laws.proofs.NewObjects.{put-beside}
-use Rattle.rm_machine_laws.proofs.Quiet.{same-stays, unchanged}
-use Rattle.rm_machine_laws.proofs.Wanted.{tell-begun}
+use Rattle.rm_machine_laws.proofs.{Increments.{holds-since}, Leading.{LeadsOnBy, StaysBy}}
+use Rattle.rm_machine_laws.proofs.{LooseNew.{AreNew, IsFree, IsNewName, above, new-loose}, LooseQuiet.{loose-done}, NewObjects.{put-beside}}
+use Rattle.rm_machine_laws.proofs.{Quiet.{same-stays, unchanged}, Wanted.{tell-begun}}
 
 -- no record has the name of an increment
 roll-apart : (l : Ledger) (id : ℕ) (name : List ℕ) → IsObjectName l name → name ≢ roll_name id

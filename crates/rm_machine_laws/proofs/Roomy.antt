@@ -1,82 +1,42 @@
 -- What is done leaves the ids of a save, and gives no id that was given.
-use Rattle.std.proofs.Common.{◌≡◌, ◌⊎◌, ◌≤◌, ◌+◌, ◌∙◌, ◌∷◌, ℕ, zero, suc, List, [], Option, Some, None, IsSomeAnd, is_none, Bool, true, false, cond, inl, inr, refl, ap, subst, arith, rules, length, map}
 use Rattle.std.specs.Option.{option_map_or}
+use Rattle.std.proofs.Common.{◌≡◌, ◌⊎◌, ◌≤◌, ◌+◌, ◌∙◌, ◌∷◌, ℕ, zero, suc, List, [], Option, Some, None, IsSomeAnd, is_none, Bool, true, false, cond, inl, inr, refl, ap, subst, arith, rules, length, map}
 use Rattle.std.proofs.lemmas.Bool.{le-ltb}
-use Rattle.rm_base.specs.Store.{Held}
-use Rattle.rm_base.specs.declared.block.Row.{Row}
-use Rattle.rm_base.specs.declared.kinds.Class.{Class}
-use Rattle.rm_base.specs.declared.kinds.Status.{Status}
-use Rattle.rm_base.specs.declared.refusal.Refusal.TheVariants.{Rm03}
-use Rattle.rm_base.proofs.Conditions.{only-where, unless}
-use Rattle.rm_catalog.specs.declared.record.BaseEntry.{BaseEntry}
-use Rattle.rm_catalog.specs.declared.record.LogEntry.{LogEntry}
-use Rattle.rm_catalog.specs.declared.record.PieceEntry.{PieceEntry}
-use Rattle.rm_catalog.specs.declared.record.SetEntry.{SetEntry}
+use Rattle.rm_base.specs.{Store.{Held}, declared.{block.Row.{Row}, kinds.{Class.{Class}, Status.{Status}}}}
+use Rattle.rm_base.{specs.declared.refusal.Refusal.TheVariants.{Rm03}, proofs.Conditions.{only-where, unless}}
+use Rattle.rm_catalog.specs.declared.record.{BaseEntry.{BaseEntry}, LogEntry.{LogEntry}, PieceEntry.{PieceEntry}, SetEntry.{SetEntry}}
 use Rattle.rm_redo.specs.declared.log_file.LogFile.{LogFile}
 use Rattle.rm_report.specs.declared.line.Line.{Line}
-use Rattle.rm_catalog_typed.specs.Changes.{with_log, with_new_log, with_piece, with_set}
-use Rattle.rm_catalog_typed.specs.TypedCatalog.{TypedCatalog}
-use Rattle.rm_lang_statement.specs.declared.command.BackupForm.{BackupForm}
-use Rattle.rm_lang_statement.specs.declared.command.ChangeTo.{ChangeTo}
+use Rattle.rm_catalog_typed.specs.{Changes.{with_log, with_new_log, with_piece, with_set}, TypedCatalog.{TypedCatalog}}
+use Rattle.rm_lang_statement.specs.declared.command.{BackupForm.{BackupForm}, ChangeTo.{ChangeTo}}
 use Rattle.rm_lang_statement.specs.declared.command.ChangeTo.TheVariants.{Available, Keep, NoKeep, Unavailable, Uncatalog}
 use Rattle.rm_lang_statement.specs.declared.command.Command.{Command}
 use Rattle.rm_lang_statement.specs.declared.command.Command.TheVariants.{ArchiveLogCurrent, Backup, BackupFrom, BackupLogs, BlockRecover, ChangeBackup, Corrupt, CreateDatabase, CreateDatafile, Crosscheck, Cut, Damage, DeleteBackup, DeleteExpired, DeleteObsolete, LoseDatafile, LoseLog, Mount, OpenPlain, OpenResetlogs, Recover, Remove, Rename, ResetDatabase, Restore, SwitchLogfile, SwitchThread, Tracking, Write, Parallelism, Retention, RecoverCopy}
-use Rattle.rm_lang_statement.specs.declared.command.Until.{Until}
-use Rattle.rm_evidence.specs.declared.evidence.Evidence.{Evidence}
-use Rattle.rm_lang_statement.specs.declared.command.RepairForm.{RepairForm}
-use Rattle.rm_lang_statement.specs.declared.command.RetentionForm.{RetentionForm}
+use Rattle.rm_lang_statement.specs.declared.command.{Until.{Until}, RepairForm.{RepairForm}, RetentionForm.{RetentionForm}}
 use Rattle.rm_lang_statement.specs.declared.command.WriteForm.{WriteForm}
-use Rattle.rm_machine.specs.Archive.{after_all, after_thread, after_threads, archiving, due_from}
-use Rattle.rm_machine.specs.BackupOutcome.{at_end, effect_of}
-use Rattle.rm_machine.specs.BlockRecover.{MendsBlocks, MissesBlock, repair_begun, without_mended}
-use Rattle.rm_machine.specs.Corrupt.{corrupted, with_damage}
+use Rattle.rm_evidence.specs.declared.evidence.Evidence.{Evidence}
+use Rattle.rm_machine.specs.{Archive.{after_all, after_thread, after_threads, archiving, due_from}, BackupOutcome.{at_end, effect_of}}
+use Rattle.rm_machine.specs.{BlockRecover.{MendsBlocks, MissesBlock, repair_begun, without_mended}, Corrupt.{corrupted, with_damage}}
 use Rattle.rm_machine.specs.MadeObjects.{Packed, after_object, after_objects, packed}
 use Rattle.rm_machine.specs.BackupLogs.{copies_of, copies_refusal, copy_entry, copying, numbered_from, with_copies}
-use Rattle.rm_machine.specs.CreateDatafile.{with_datafile}
-use Rattle.rm_machine.specs.Damage.{has_block, without_damaged}
-use Rattle.rm_machine.specs.Events.{after_events}
-use Rattle.rm_machine.specs.Configure.{policy_of, with_channels, with_policy}
-use Rattle.rm_machine.specs.DisableThread.{disabling, with_thread_off}
-use Rattle.rm_machine.specs.Effect.{Effect, done, no_effect, refused}
-use Rattle.rm_machine.specs.EnableThread.{with_thread_on}
-use Rattle.rm_machine.specs.Laws.{only_tells}
-use Rattle.rm_machine.specs.LoseDatafile.{without_file}
-use Rattle.rm_machine.specs.LoseLog.{without_log}
-use Rattle.rm_machine.specs.Marks.{ids_refusal, lacks_ids, marks_before, with_marks}
-use Rattle.rm_machine.specs.Mount.{as_mounted, mounted}
-use Rattle.rm_machine.specs.Open.{opened}
-use Rattle.rm_machine.specs.OpenResetlogs.{branched_off, resetlogs_lines}
-use Rattle.rm_machine.specs.Recover.{RecoversTo, recover_target, recovered, target_refusal}
-use Rattle.rm_machine.proofs.Untils.{until-none}
-use Rattle.rm_machine.specs.ResetDatabase.{at_incarnation}
-use Rattle.rm_machine.specs.Restore.{RestoresTo, place_refusal, restored}
-use Rattle.rm_machine.specs.Roll.{after_roll, roll_effect}
-use Rattle.rm_machine.specs.Sound.{IsSound}
-use Rattle.rm_machine.specs.declared.state.State.{State}
-use Rattle.rm_machine.specs.State.{current_of, is_no_thread, ledger, now_of, online}
-use Rattle.rm_machine.specs.Step.{IsDone, IsOutcome, refusal_of}
+use Rattle.rm_machine.specs.{CreateDatafile.{with_datafile}, Damage.{has_block, without_damaged}, Events.{after_events}}
+use Rattle.rm_machine.specs.{Configure.{policy_of, with_channels, with_policy}, DisableThread.{disabling, with_thread_off}}
+use Rattle.rm_machine.specs.{Effect.{Effect, done, no_effect, refused}, EnableThread.{with_thread_on}, Laws.{only_tells}}
+use Rattle.rm_machine.specs.{LoseDatafile.{without_file}, LoseLog.{without_log}, Marks.{ids_refusal, lacks_ids, marks_before, with_marks}}
+use Rattle.rm_machine.specs.{Mount.{as_mounted, mounted}, Open.{opened}, OpenResetlogs.{branched_off, resetlogs_lines}}
+use Rattle.rm_machine.specs.{Recover.{RecoversTo, recover_target, recovered, target_refusal}, ResetDatabase.{at_incarnation}}
+use Rattle.rm_machine.specs.{Restore.{RestoresTo, place_refusal, restored}, Roll.{after_roll, roll_effect}, Sound.{IsSound}}
+use Rattle.rm_machine.specs.{State.{current_of, is_no_thread, ledger, now_of, online}, Step.{IsDone, IsOutcome, refusal_of}}
 use Rattle.rm_machine.specs.SwitchLogfile.{archive_refusal, archived, is_due, made_lines, none_lines, with_archived}
 use Rattle.rm_machine.specs.Tracking.{with_tracking}
 use Rattle.rm_machine.specs.Upkeep.{changed_to, log_at, log_changed, piece_at, piece_changed, set_at, set_changed, with_catalog, with_keep, with_status, with_statuses, without_all, without_record}
-use Rattle.rm_machine.specs.Write.{with_write}
-use Rattle.rm_machine.proofs.Archives.{Took, took-thread}
-use Rattle.rm_machine_laws.proofs.ArchivingAll.{room}
-use Rattle.rm_machine_laws.proofs.Asking.{Asks, asks-else, asks-ids, corrupt-asks, repair-asks, write-asks}
-use Rattle.rm_machine.proofs.BackingUp.{base-at_end, objects-many}
-use Rattle.rm_machine.proofs.BackupAccepted.{can-back_up}
-use Rattle.rm_machine.proofs.Recording.{next-id}
-use Rattle.rm_machine.proofs.BackingUpLogs.{after_copies, room-for}
-use Rattle.rm_machine_laws.proofs.BackingUpLogs.{done-of}
-use Rattle.rm_machine.proofs.Branching.{can-reset}
-use Rattle.rm_machine.proofs.Disabling.{accepted}
-use Rattle.rm_machine.proofs.Rolling.{can-roll}
-use Rattle.rm_machine_laws.proofs.Mishaps.{IsMishap, cut-by, damaged-by, removed-by, renamed-by}
-use Rattle.rm_machine_laws.proofs.Leading.{done-by}
-use Rattle.rm_machine_laws.proofs.Renewals.{leaves-renewed}
-use Rattle.rm_machine.proofs.Switching.{not-above}
-use Rattle.rm_machine.proofs.Walk.{events-same}
-use Rattle.rm_machine_laws.proofs.Telling.{never-done}
-use Rattle.rm_machine.proofs.Untils.{until-none}
+use Rattle.rm_machine.{specs.{Write.{with_write}, declared.state.State.{State}}, proofs.{Untils.{until-none}, Archives.{Took, took-thread}}}
+use Rattle.rm_machine.proofs.{BackingUp.{base-at_end, objects-many}, BackupAccepted.{can-back_up}, Recording.{next-id}}
+use Rattle.rm_machine.proofs.{BackingUpLogs.{after_copies, room-for}, Branching.{can-reset}, Disabling.{accepted}, Rolling.{can-roll}}
+use Rattle.rm_machine.proofs.{Switching.{not-above}, Walk.{events-same}}
+use Rattle.rm_machine_laws.proofs.{ArchivingAll.{room}, Asking.{Asks, asks-else, asks-ids, corrupt-asks, repair-asks, write-asks}}
+use Rattle.rm_machine_laws.proofs.{BackingUpLogs.{done-of}, Mishaps.{IsMishap, cut-by, damaged-by, removed-by, renamed-by}}
+use Rattle.rm_machine_laws.proofs.{Leading.{done-by}, Renewals.{leaves-renewed}, Telling.{never-done}}
 
 -- the next id of a catalog, and of a database
 abbrev next_in : TypedCatalog → ℕ

@@ -1,22 +1,12 @@
 -- A step of DELETE OBSOLETE keeps the targets of the window.
 use Rattle.std.proofs.Common.{◌≡◌, ◌∙◌, ℕ, Option, Some, None, List, false, ap, sym, subst}
-use Rattle.rm_base.specs.Store.{Held}
-use Rattle.rm_base.specs.declared.refusal.Refusal.{Refusal}
+use Rattle.rm_base.specs.{Store.{Held}, declared.refusal.Refusal.{Refusal}}
 use Rattle.rm_catalog.specs.declared.record.Record.{Record}
-use Rattle.rm_report.specs.declared.line.Line.{Line}
-use Rattle.rm_report.specs.declared.line.Reply.{Reply}
-use Rattle.rm_lang_statement.specs.declared.command.Command.{Command}
-use Rattle.rm_lang_statement.specs.declared.command.Command.TheVariants.{DeleteObsolete}
-use Rattle.rm_machine.specs.Effect.{Outcome, done, refused, told}
-use Rattle.rm_machine.specs.Machine.{Machine}
-use Rattle.rm_machine.specs.Obsolete.{IsSafe}
-use Rattle.rm_machine.specs.declared.state.State.{State}
-use Rattle.rm_machine.specs.State.{at_moment}
-use Rattle.rm_machine.specs.Step.{IsOutcome, IsOutcomeBy, StepBy, StepIn, refusal_of}
-use Rattle.rm_machine_laws.specs.Holds.{View}
-use Rattle.rm_machine_laws.specs.Moments.{moment_of}
-use Rattle.rm_machine_laws.specs.Steps.{DeletesSafely, Steps}
-use Rattle.rm_machine_laws.proofs.Cataloguing.{asks-no-more}
+use Rattle.rm_report.specs.declared.line.{Line.{Line}, Reply.{Reply}}
+use Rattle.rm_lang_statement.specs.declared.command.Command.{Command, TheVariants.{DeleteObsolete}}
+use Rattle.rm_machine.specs.{Effect.{Outcome, done, refused, told}, Machine.{Machine}, Obsolete.{IsSafe}, State.{at_moment}}
+use Rattle.rm_machine.specs.{Step.{IsOutcome, IsOutcomeBy, StepBy, StepIn, refusal_of}, declared.state.State.{State}}
+use Rattle.rm_machine_laws.{specs.{Holds.{View}, Moments.{moment_of}, Steps.{DeletesSafely, Steps}}, proofs.Cataloguing.{asks-no-more}}
 
 -- it never only tells
 never-tells : (r : Option Refusal) (s : State) (held : Held) (lines : List Line) → IsOutcomeBy r s held DeleteObsolete (told lines) → ⊥

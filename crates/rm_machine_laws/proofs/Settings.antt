@@ -1,27 +1,15 @@
 -- CONFIGURE leads on: of the base facts the policy or the count of channels changes alone.
 use Rattle.std.proofs.Common.{◌≡◌, ◌≤◌, ◌&&◌, inl, ℕ, nat_le, nat_lt, true, false, None, refl, arith, rules}
 use Rattle.std.proofs.lemmas.Bool.Decides.{nat_tests}
-use Rattle.rm_base.specs.declared.kinds.Policy.{Policy}
-use Rattle.rm_base.proofs.Conditions.{unless}
+use Rattle.rm_base.{specs.declared.kinds.Policy.{Policy}, proofs.Conditions.{unless}}
 use Rattle.rm_catalog.specs.Facts.{IsPolicy}
-use Rattle.rm_catalog_typed.specs.Changes.{with_base}
-use Rattle.rm_catalog_typed.specs.Facts.{IsTypedCatalog}
-use Rattle.rm_catalog_typed.proofs.Fitted.{base_fits}
-use Rattle.rm_lang_statement.specs.declared.command.Command.TheVariants.{Parallelism, Retention}
-use Rattle.rm_lang_statement.specs.declared.command.RetentionForm.{RetentionForm}
-use Rattle.rm_lang_statement.specs.declared.command.RetentionForm.TheVariants.{Clear, Nothing, Redundancy, Window}
-use Rattle.rm_lang_statement.specs.IsCommand.{is_command, is_retention}
-use Rattle.rm_machine.specs.Configure.{policy_of, policy_refusal, with_channels, with_policy}
-use Rattle.rm_machine.specs.Marks.{lacks_ids}
-use Rattle.rm_machine.specs.Sound.{IsSound}
-use Rattle.rm_machine.specs.declared.state.State.{State}
-use Rattle.rm_machine.specs.State.{ledger}
-use Rattle.rm_machine.specs.Upkeep.{with_catalog}
-use Rattle.rm_machine.proofs.Entries.{GoesOn}
-use Rattle.rm_machine_laws.proofs.Leading.{LeadsOnBy, StaysBy}
-use Rattle.rm_machine_laws.proofs.Upkeep.{catalog-on, catalog-stays}
-use Rattle.rm_machine.proofs.Later.{borne-same, sound-with}
-use Rattle.rm_machine.proofs.Switching.{not-above}
+use Rattle.rm_catalog_typed.{specs.{Changes.{with_base}, Facts.{IsTypedCatalog}}, proofs.Fitted.{base_fits}}
+use Rattle.rm_lang_statement.specs.{IsCommand.{is_command, is_retention}, declared.command.Command.TheVariants.{Parallelism, Retention}}
+use Rattle.rm_lang_statement.specs.declared.command.RetentionForm.{RetentionForm, TheVariants.{Clear, Nothing, Redundancy, Window}}
+use Rattle.rm_machine.specs.{Configure.{policy_of, policy_refusal, with_channels, with_policy}, Marks.{lacks_ids}, Sound.{IsSound}}
+use Rattle.rm_machine.{specs.{State.{ledger}, Upkeep.{with_catalog}, declared.state.State.{State}}, proofs.Entries.{GoesOn}}
+use Rattle.rm_machine.proofs.{Later.{borne-same, sound-with}, Switching.{not-above}}
+use Rattle.rm_machine_laws.proofs.{Leading.{LeadsOnBy, StaysBy}, Upkeep.{catalog-on, catalog-stays}}
 
 -- with another policy and another count of channels
 module _ (s : State) (p : Policy) (channels : ℕ) where

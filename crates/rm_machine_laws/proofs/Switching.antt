@@ -1,34 +1,22 @@
 -- SWITCH LOGFILE leads on: a record is added with its artefact and its object.
 use Rattle.std.proofs.Common.{◌≡◌, ◌≢◌, ◌<◌, ◌≤◌, ◌+◌, ◌∙◌, ◌++◌, ◌==◌, ◌&&◌, nat_le, nat_lt, inl, inr, ℕ, List, [], ◌∷◌, Option, None, Bool, true, false, cond, refl, ap, sym, subst, arith, filter, rules}
 use Rattle.std.proofs.lemmas.Bool.{and_left, and_right, cases_eq, cases_lt, le-ltb, lt-leb}
-use Rattle.rm_base.specs.Store.{Held}
-use Rattle.rm_base.specs.declared.block.Change.{Change}
-use Rattle.rm_base.specs.declared.refusal.Refusal.{Refusal}
-use Rattle.rm_history.specs.Agrees.{LogAgrees, is_of}
-use Rattle.rm_history.specs.Artefacts.{Log}
+use Rattle.rm_base.specs.{Store.{Held}, declared.{block.Change.{Change}, refusal.Refusal.{Refusal}}}
+use Rattle.rm_base.proofs.Conditions.{only-where, unless}
+use Rattle.rm_history.specs.{Agrees.{LogAgrees, is_of}, Artefacts.{Log}}
 use Rattle.rm_catalog_typed.specs.Ledger.{Ledger}
-use Rattle.rm_redo.specs.declared.log_file.LogFile.{LogFile}
-use Rattle.rm_redo.specs.LogFile.{changes_in, log_of}
-use Rattle.rm_redo.specs.Online.{IsThread}
+use Rattle.rm_redo.specs.{LogFile.{changes_in, log_of}, Online.{IsThread}, declared.log_file.LogFile.{LogFile}}
 use Rattle.rm_redo.proofs.Logs.{around-switched, is_lost-switched}
 use Rattle.rm_report.specs.declared.line.Line.{Line}
 use Rattle.rm_machine.specs.Effect.{Effect, LeavesObjects, Made, a_log, done, no_effect}
-use Rattle.rm_machine.specs.Machine.{IsTrueArtefact, HistoryFits, IsBorneOut}
-use Rattle.rm_machine.specs.Marks.{ids_refusal}
-use Rattle.rm_machine.specs.Sound.{IsOnline, IsSound}
-use Rattle.rm_machine.specs.declared.state.State.{State}
+use Rattle.rm_machine.specs.{Machine.{IsTrueArtefact, HistoryFits, IsBorneOut}, Marks.{ids_refusal}, Sound.{IsOnline, IsSound}}
 use Rattle.rm_machine.specs.State.{ledger, is_lost, is_no_thread, online, redo_end, world}
-use Rattle.rm_lang_statement.specs.declared.command.Command.TheVariants.{SwitchLogfile}
 use Rattle.rm_machine.specs.SwitchLogfile.{archive_refusal, archived, is_due, log_entry, made_lines, none_lines, switch_refusal, with_archived}
-use Rattle.rm_base.proofs.Conditions.{only-where, unless}
-use Rattle.rm_machine.proofs.Kept.{stand-same}
-use Rattle.rm_machine_laws.proofs.Leading.{LeadsOnBy, StaysBy}
-use Rattle.rm_machine_laws.proofs.Quiet.{quiet-on, same-stays, unchanged}
+use Rattle.rm_machine.{specs.declared.state.State.{State}, proofs.{Switching as shared, Kept.{stand-same}, Later.{borne-beside}}}
+use Rattle.rm_machine.proofs.{Switching.{CanArchive, due-parts, sound-after}, Threads.{thread-before, thread-of}}
+use Rattle.rm_lang_statement.specs.declared.command.Command.TheVariants.{SwitchLogfile}
+use Rattle.rm_machine_laws.proofs.{Leading.{LeadsOnBy, StaysBy}, Quiet.{quiet-on, same-stays, unchanged}}
 use Rattle.rm_machine_laws.proofs.NewObjects.{borne-logged, with_puts}
-use Rattle.rm_machine.proofs.Later.{borne-beside}
-use Rattle.rm_machine.proofs.Switching.{CanArchive, due-parts, sound-after}
-use Rattle.rm_machine.proofs.Threads.{thread-before, thread-of}
-use Rattle.rm_machine.proofs.Switching as shared
 
 -- An empty log
 

@@ -4,15 +4,9 @@ use Rattle.rm_base.specs.Store.{Held}
 use Rattle.rm_lang_statement.specs.declared.command.Command.{Command}
 use Rattle.rm_lang_statement.specs.declared.command.Command.TheVariants.{Dump, ListArchived, ListBackup, ListCopy, ListCorruption, ListIncarnation, Preview, RecoverTest, ReportNeedBackup, ReportObsolete, ReportSchema, ShowAll, ValidateAll}
 use Rattle.rm_report.specs.declared.line.Line.{Line}
-use Rattle.rm_machine.specs.Effect.{Effect, done}
-use Rattle.rm_machine.specs.Laws.{only_tells}
-use Rattle.rm_machine.specs.Recover.{recover_target}
-use Rattle.rm_machine.specs.RecoverTest.{TestsTo, test_target, tested}
-use Rattle.rm_machine.specs.Restore.{PreviewsTo}
-use Rattle.rm_machine.specs.declared.state.State.{State}
-use Rattle.rm_machine.specs.Step.{IsDone}
-use Rattle.rm_machine_laws.proofs.Leading.{LeadsOnBy, StaysBy, TellsOnBy}
-use Rattle.rm_machine_laws.proofs.Recovered.{test-tells}
+use Rattle.rm_machine.specs.{Effect.{Effect, done}, Laws.{only_tells}, Recover.{recover_target}, RecoverTest.{TestsTo, test_target, tested}}
+use Rattle.rm_machine.specs.{Restore.{PreviewsTo}, Step.{IsDone}, declared.state.State.{State}}
+use Rattle.rm_machine_laws.proofs.{Leading.{LeadsOnBy, StaysBy, TellsOnBy}, Recovered.{test-tells}}
 
 abbrev pub IsNeverDone : Command → Type 0
 IsNeverDone c = (s : State) (held : Held) (said : List Line) (e : Effect) (t : State) → IsDone s held c (done said e t) → ⊥

@@ -5,22 +5,13 @@ use Rattle.rm_history.specs.Tree.{IsThere}
 use Rattle.rm_lang_statement.specs.declared.command.Command.TheVariants.{SwitchThread}
 use Rattle.rm_report.specs.declared.line.Line.{Line}
 use Rattle.rm_catalog_typed.specs.Switches.{is_enabled_in, next_sequence}
-use Rattle.rm_machine.specs.Archive.{after_thread}
-use Rattle.rm_machine.specs.DisableThread.{disable_refusal, with_thread_off}
-use Rattle.rm_machine.specs.Effect.{Effect, done}
-use Rattle.rm_machine.specs.EnableThread.{enable_refusal, with_thread_on}
-use Rattle.rm_machine.specs.Sound.{IsSound}
-use Rattle.rm_machine.specs.declared.state.State.{State}
-use Rattle.rm_machine.specs.State.{current_of, ledger, now_of, tree}
-use Rattle.rm_machine.specs.Step.{IsOutcome, refusal_of}
-use Rattle.rm_machine.specs.SwitchLogfile.{is_due}
+use Rattle.rm_machine.specs.{Archive.{after_thread}, DisableThread.{disable_refusal, with_thread_off}, Effect.{Effect, done}}
+use Rattle.rm_machine.specs.{EnableThread.{enable_refusal, with_thread_on}, Sound.{IsSound}, State.{current_of, ledger, now_of, tree}}
+use Rattle.rm_machine.specs.{Step.{IsOutcome, refusal_of}, SwitchLogfile.{is_due}, declared.state.State.{State}}
 use Rattle.rm_machine.proofs.Archives.{beside-thread, thread-either}
-use Rattle.rm_machine.proofs.Disabling.{after-due, brought, can-disable, current-after, now-after, number}
-use Rattle.rm_machine.proofs.Enabling.{can-enable}
-use Rattle.rm_machine.proofs.ThreadSwitches.{own-enabled}
-use Rattle.rm_machine.proofs.ThreadSwitches as shared
-use Rattle.rm_machine_laws.proofs.Leading.{done-by}
-use Rattle.rm_machine_laws.proofs.ThreadSwitches as switching
+use Rattle.rm_machine.proofs.{Disabling.{after-due, brought, can-disable, current-after, now-after, number}, Enabling.{can-enable}}
+use Rattle.rm_machine.proofs.{ThreadSwitches as shared, ThreadSwitches.{own-enabled}}
+use Rattle.rm_machine_laws.proofs.{ThreadSwitches as switching, Leading.{done-by}}
 
 -- from the SCN of the switch on the thread is as it says, and elsewhere all is as before
 pub record IsSwitched (s t : State) (thread : ℕ) (on : Bool) : Type 0 where

@@ -1,39 +1,21 @@
 -- A redo thread is enabled or disabled: the history and what was ever recorded go on, and at every other address all is as before.
 use Rattle.std.proofs.Common.{◌≡◌, ◌<◌, ◌≤◌, ◌+◌, ◌∙◌, ◌++◌, ◌∷◌, [], inl, inr, ℕ, List, Some, Bool, true, false, refl, ap, sym, subst, arith, All}
-use Rattle.std.proofs.lemmas.Bool.{cases_Bool, cases_eq}
-use Rattle.std.proofs.lemmas.List.Elements.{All-contains, All-weaker}
-use Rattle.rm_base.specs.Store.{Held}
-use Rattle.rm_base.specs.declared.block.Change.{Change}
+use Rattle.std.proofs.lemmas.{Bool.{cases_Bool, cases_eq}, List.Elements.{All-contains, All-weaker}}
+use Rattle.rm_base.specs.{Store.{Held}, declared.block.Change.{Change}}
 use Rattle.rm_blocks.specs.File.{base_of}
-use Rattle.rm_history.specs.declared.tree.Incarnation.{Incarnation}
-use Rattle.rm_history.specs.declared.world.Switch.{Switch}
-use Rattle.rm_history.specs.declared.world.World.{World}
-use Rattle.rm_history.specs.Agrees.{BaseAgrees, Level1Agrees, LogAgrees}
-use Rattle.rm_history.specs.History.{IsHistory}
-use Rattle.rm_history.specs.Threads.{applies, is_enabled}
-use Rattle.rm_history.specs.Tree.{IsThere, end_of, with_end}
-use Rattle.rm_history.specs.World.{with_switch, with_tree}
-use Rattle.rm_history.proofs.Below.{agrees-further}
+use Rattle.rm_history.specs.{Agrees.{BaseAgrees, Level1Agrees, LogAgrees}, History.{IsHistory}, Threads.{applies, is_enabled}}
+use Rattle.rm_history.specs.{Tree.{IsThere, end_of, with_end}, World.{with_switch, with_tree}, declared.tree.Incarnation.{Incarnation}}
+use Rattle.rm_history.{specs.declared.world.{Switch.{Switch}, World.{World}}, proofs.Below.{agrees-further}}
 use Rattle.rm_history.proofs.Enabled.{applies-parts, enabled-alike, enabled-push_other}
 use Rattle.rm_history.proofs.Histories.{IsHistory-with_end, IsHistory-with_switch}
 use Rattle.rm_history.proofs.Worlds.{BaseAgrees-with_end, BaseAgrees-with_switch, Level1Agrees-with_end, Level1Agrees-with_switch}
-use Rattle.rm_catalog_typed.specs.Switches.{is_enabled_in, switch_of, switches_of}
-use Rattle.rm_catalog_typed.proofs.Trees.{own-at_end}
-use Rattle.rm_redo.specs.declared.log_file.LogFile.{LogFile}
-use Rattle.rm_redo.specs.LogFile.{log_of}
-use Rattle.rm_redo.specs.Online.{IsThread, empty_log, has_log, log_where}
-use Rattle.rm_machine.specs.Effect.{Made}
-use Rattle.rm_machine.specs.Machine.{HistoryFits, IsBorneOut}
-use Rattle.rm_machine.specs.Sound.{IsSound}
-use Rattle.rm_machine.specs.declared.state.State.{State}
-use Rattle.rm_machine.specs.State.{counted, current_of, is_lost, ledger, now_of, online, tree, world}
-use Rattle.rm_machine.proofs.Further.{further, keeps-further}
-use Rattle.rm_machine.proofs.Threads.{file_by, thread-in}
-use Rattle.rm_machine.proofs.ThreadSwitches.{CanSwitch, sound-switched}
+use Rattle.rm_catalog_typed.{specs.Switches.{is_enabled_in, switch_of, switches_of}, proofs.Trees.{own-at_end}}
+use Rattle.rm_redo.specs.{LogFile.{log_of}, Online.{IsThread, empty_log, has_log, log_where}, declared.log_file.LogFile.{LogFile}}
+use Rattle.rm_machine.specs.{Effect.{Made}, Machine.{HistoryFits, IsBorneOut}, Sound.{IsSound}}
+use Rattle.rm_machine.specs.{State.{counted, current_of, is_lost, ledger, now_of, online, tree, world}, declared.state.State.{State}}
+use Rattle.rm_machine.proofs.{Further.{further, keeps-further}, Threads.{file_by, thread-in}, ThreadSwitches.{CanSwitch, sound-switched}}
 use Rattle.rm_machine.proofs.ThreadSwitches as shared
-use Rattle.rm_machine_laws.proofs.Further.{fits-further}
-use Rattle.rm_machine_laws.proofs.Grown.{SameHistory, true-on}
-use Rattle.rm_machine_laws.proofs.Switching.{empty-agrees}
+use Rattle.rm_machine_laws.proofs.{Further.{fits-further}, Grown.{SameHistory, true-on}, Switching.{empty-agrees}}
 
 module _ (s : State) (t : ℕ) (on : Bool) (number : ℕ) (sound : IsSound s) (can : CanSwitch s t on number) where
   abbrev i : ℕ

@@ -1,21 +1,11 @@
 -- ENABLE and DISABLE BLOCK CHANGE TRACKING lead on: the setting changes, and changes are tracked anew or no longer.
 use Rattle.std.proofs.Common.{ℕ, Bool, List, refl, arith}
-use Rattle.rm_base.specs.Store.{Held}
-use Rattle.rm_base.specs.declared.block.Change.{Change}
-use Rattle.rm_catalog_typed.specs.Facts.{IsTypedCatalog}
-use Rattle.rm_catalog_typed.proofs.Fitted.{base_fits}
+use Rattle.rm_base.specs.{Store.{Held}, declared.block.Change.{Change}}
+use Rattle.rm_catalog_typed.{specs.Facts.{IsTypedCatalog}, proofs.Fitted.{base_fits}}
 use Rattle.rm_lang_statement.specs.declared.command.Command.TheVariants.{Tracking}
-use Rattle.rm_machine.specs.Effect.{Made}
-use Rattle.rm_machine.specs.Machine.{HistoryFits, IsBorneOut}
-use Rattle.rm_machine.specs.Sound.{IsSound}
-use Rattle.rm_machine.specs.Tracking.{with_tracking}
-use Rattle.rm_machine.specs.declared.state.State.{State}
-use Rattle.rm_machine.specs.State.{ledger}
-use Rattle.rm_machine.proofs.Damaged.{damaged-same}
-use Rattle.rm_machine.proofs.Tracked.{tracked-fresh}
-use Rattle.rm_machine.proofs.FirstTold.{tell-first}
-use Rattle.rm_machine_laws.proofs.Leading.{LeadsOnBy, StaysBy}
-use Rattle.rm_machine_laws.proofs.Quiet.{quiet-on, quiet-stays}
+use Rattle.rm_machine.specs.{Effect.{Made}, Machine.{HistoryFits, IsBorneOut}, Sound.{IsSound}, Tracking.{with_tracking}, State.{ledger}}
+use Rattle.rm_machine.{specs.declared.state.State.{State}, proofs.{Damaged.{damaged-same}, Tracked.{tracked-fresh}, FirstTold.{tell-first}}}
+use Rattle.rm_machine_laws.proofs.{Leading.{LeadsOnBy, StaysBy}, Quiet.{quiet-on, quiet-stays}}
 
 module _ (s : State) (on : Bool) (sound : IsSound s) where
   abbrev q : State

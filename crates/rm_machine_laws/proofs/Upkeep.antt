@@ -1,27 +1,16 @@
 -- CHANGE BACKUP, DELETE BACKUP, CROSSCHECK and DELETE EXPIRED lead on.
 use Rattle.std.proofs.Common.{◌≡◌, ◌++◌, ℕ, List, [], ◌∷◌, None, Bool, true, false, refl}
-use Rattle.rm_base.specs.Store.{Held}
-use Rattle.rm_base.specs.declared.block.Change.{Change}
-use Rattle.rm_base.specs.declared.kinds.Class.{Class}
-use Rattle.rm_base.specs.declared.kinds.Status.{Status}
-use Rattle.rm_base.specs.declared.kinds.Status.TheVariants as status
-use Rattle.rm_catalog.specs.declared.record.LogEntry.{LogEntry}
-use Rattle.rm_catalog.specs.declared.record.PieceEntry.{PieceEntry}
-use Rattle.rm_catalog.specs.declared.record.SetEntry.{SetEntry}
+use Rattle.rm_base.specs.{Store.{Held}, declared.{block.Change.{Change}, kinds.{Class.{Class}, Status.{Status, TheVariants as status}}}}
+use Rattle.rm_catalog.specs.declared.record.{LogEntry.{LogEntry}, PieceEntry.{PieceEntry}, SetEntry.{SetEntry}}
 use Rattle.rm_report.specs.declared.line.Line.{Line}
 use Rattle.rm_catalog_typed.specs.TypedCatalog.{TypedCatalog}
-use Rattle.rm_lang_statement.specs.declared.command.ChangeTo.{ChangeTo}
-use Rattle.rm_lang_statement.specs.declared.command.ChangeTo.TheVariants.{Available, Keep, NoKeep, Unavailable, Uncatalog}
+use Rattle.rm_lang_statement.specs.declared.command.ChangeTo.{ChangeTo, TheVariants.{Available, Keep, NoKeep, Unavailable, Uncatalog}}
 use Rattle.rm_lang_statement.specs.declared.command.Command.TheVariants.{ChangeBackup, Crosscheck, DeleteExpired}
-use Rattle.rm_machine.specs.Effect.{Effect, LeavesObjects, Made, done, no_effect}
-use Rattle.rm_machine.specs.Machine.{IsBorneOut}
-use Rattle.rm_machine.specs.Sound.{IsSound}
-use Rattle.rm_machine.specs.declared.state.State.{State}
+use Rattle.rm_machine.specs.{Effect.{Effect, LeavesObjects, Made, done, no_effect}, Machine.{IsBorneOut}, Sound.{IsSound}}
 use Rattle.rm_machine.specs.Upkeep.{changed_to, log_changed, piece_changed, set_changed, with_catalog, with_keep, with_status, with_statuses, without_all}
-use Rattle.rm_machine.proofs.Entries.{GoesOn, LogAs, PieceAs, SetAs, log-on, piece-on, set-on, then-on, without-on}
-use Rattle.rm_machine_laws.proofs.Leading.{LeadsOnBy, StaysBy}
-use Rattle.rm_machine_laws.proofs.Quiet.{quiet-on, quiet-stays}
-use Rattle.rm_machine.proofs.Upkeep.{all-on}
+use Rattle.rm_machine.specs.declared.state.State.{State}
+use Rattle.rm_machine.proofs.{Entries.{GoesOn, LogAs, PieceAs, SetAs, log-on, piece-on, set-on, then-on, without-on}, Upkeep.{all-on}}
+use Rattle.rm_machine_laws.proofs.{Leading.{LeadsOnBy, StaysBy}, Quiet.{quiet-on, quiet-stays}}
 
 -- the log, the piece and the set of an id, one after another
 each-on : (s : State) (f : LogEntry → LogEntry) (g : PieceEntry → PieceEntry) (k : SetEntry → SetEntry) (n : ℕ) → LogAs f → PieceAs g → SetAs k → IsSound s → GoesOn s (set_changed k n (piece_changed g n (log_changed f n s.catalog)))

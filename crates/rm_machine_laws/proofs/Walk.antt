@@ -1,28 +1,16 @@
 -- Along the events of a BACKUP the database stays sound and fits its history, and what was read stays true.
 use Rattle.std.proofs.Common.{◌≡◌, ◌≤◌, ◌<◌, ◌++◌, inl, inr, ℕ, List, [], ◌∷◌, false, refl, sym, subst, arith, append_assoc, map, Contains}
 use Rattle.std.proofs.lemmas.List.{append-nil}
-use Rattle.rm_base.specs.Store.{Held}
-use Rattle.rm_base.specs.declared.block.Change.{Change}
-use Rattle.rm_base.specs.declared.block.Row.{Row}
-use Rattle.rm_base.proofs.Members.{first-or-rest, none-in}
+use Rattle.rm_base.{specs.{Store.{Held}, declared.block.{Change.{Change}, Row.{Row}}}, proofs.Members.{first-or-rest, none-in}}
 use Rattle.rm_channel.specs.Made.{deed}
-use Rattle.rm_history.specs.Agrees.{IsBelow, IsRow}
-use Rattle.rm_history.specs.State.{state}
-use Rattle.rm_live.specs.declared.history.Answer.{Answer}
-use Rattle.rm_live.specs.declared.history.Call.{Call}
-use Rattle.rm_live.specs.declared.history.Event.{Event}
-use Rattle.rm_live.specs.History.{IsLegal, IsRight}
+use Rattle.rm_history.specs.{Agrees.{IsBelow, IsRow}, State.{state}}
+use Rattle.rm_live.specs.{History.{IsLegal, IsRight}, declared.history.{Answer.{Answer}, Call.{Call}, Event.{Event}}}
 use Rattle.rm_lang_statement.specs.declared.command.WriteForm.{WriteForm}
-use Rattle.rm_machine.specs.Damage.{has_block}
-use Rattle.rm_machine.specs.Effect.{Made}
-use Rattle.rm_machine.specs.Machine.{HistoryFits, IsBorneOut}
-use Rattle.rm_machine.specs.declared.state.State.{State}
-use Rattle.rm_machine.specs.State.{current_of, now_of, world}
-use Rattle.rm_machine_laws.proofs.Writing.{borne-write}
-use Rattle.rm_machine.specs.Events.{after_event, after_events, change_by, changes_of, opening}
+use Rattle.rm_machine.specs.{Damage.{has_block}, Effect.{Made}, Machine.{HistoryFits, IsBorneOut}, State.{current_of, now_of, world}}
+use Rattle.rm_machine.specs.{Events.{after_event, after_events, change_by, changes_of, opening}, declared.state.State.{State}}
 use Rattle.rm_machine.proofs.Found.{read-of}
-use Rattle.rm_machine_laws.proofs.Found.{read-true, row-write}
 use Rattle.rm_machine.proofs.Walk.{AreAsked, CanGoOn, IsAsked, accepted, by-event, event-on, found-here, full, legal-on, now-event, reading}
+use Rattle.rm_machine_laws.proofs.{Writing.{borne-write}, Found.{read-true, row-write}}
 
 -- One event
 

@@ -1,36 +1,21 @@
 -- The blocks that a BACKUP wants, by its bitmaps: those that changed. The others had a version below the parent's checkpoint.
-use Rattle.std.proofs.Common.{◌≡◌, ◌↔◌, ◌+◌, ◌<◌, ◌∙◌, inl, inr, ℕ, Bool, List, [], ◌∷◌, Option, Some, None, IsSome, is_some, true, cond, Contains, length, refl, ap, sym, subst, arith}
 use Rattle.std.specs.Option.{option_and_then, option_map, option_map_or}
+use Rattle.std.proofs.Common.{◌≡◌, ◌↔◌, ◌+◌, ◌<◌, ◌∙◌, inl, inr, ℕ, Bool, List, [], ◌∷◌, Option, Some, None, IsSome, is_some, true, cond, Contains, length, refl, ap, sym, subst, arith}
 use Rattle.std.proofs.lemmas.Bool.{le-ltb, lt-ltb}
-use Rattle.rm_base.proofs.Lists.{map_to}
-use Rattle.rm_base.proofs.Members.{first-or-rest, none-in}
-use Rattle.rm_base.specs.declared.block.Change.{Change}
-use Rattle.rm_history.specs.Agrees.{IsBelow}
-use Rattle.rm_history.specs.State.{state}
-use Rattle.rm_history.specs.World.{blocks_of}
+use Rattle.rm_base.{specs.declared.block.Change.{Change}, proofs.{Lists.{map_to}, Members.{first-or-rest, none-in}}}
+use Rattle.rm_history.specs.{Agrees.{IsBelow}, State.{state}, World.{blocks_of}}
 use Rattle.rm_track.specs.Bits.{IsMarked, blocks_from}
 use Rattle.rm_track.specs.Bitmaps.{Tracked, candidates_at, candidates_of, joined, oldest, switch_at, switched, tracked_at, unmarked}
-use Rattle.rm_track.specs.Told.{HasChange, IsChanged, IsStartFor, Tell, starts}
-use Rattle.rm_track.proofs.Places.{found-same}
-use Rattle.rm_track.proofs.Telling.{candidates-found}
+use Rattle.rm_track.{specs.Told.{HasChange, IsChanged, IsStartFor, Tell, starts}, proofs.{Places.{found-same}, Telling.{candidates-found}}}
 use Rattle.rm_live.specs.Ruled.{upto}
 use Rattle.rm_catalog_typed.proofs.Trees.{parents_below}
 use Rattle.rm_lang_statement.specs.declared.command.BackupForm.{BackupForm}
-use Rattle.rm_machine.specs.Asked.{blocks_read, candidates_in}
-use Rattle.rm_machine.specs.Backup.{AreJobs, rows_in, taken}
-use Rattle.rm_machine.specs.BackupOutcome.{begun}
-use Rattle.rm_machine.specs.Machine.{HistoryFits}
-use Rattle.rm_machine.specs.Sound.{IsSound}
-use Rattle.rm_machine.specs.Tracked.{AreTracked, IsTracked, switch_all, tracks, with_tracker}
-use Rattle.rm_machine.specs.declared.job.Job.{Job}
-use Rattle.rm_machine.specs.declared.state.State.{State}
-use Rattle.rm_machine.specs.State.{current_of, ledger, now_of, on_path, tree, world}
-use Rattle.rm_machine.proofs.BackingUp.{IsNoCandidate}
-use Rattle.rm_machine.proofs.ReadBlocks.{blocks-marked, marked-block}
-use Rattle.rm_machine.proofs.Tracked.{at-file, some-is, tracked-switch_all}
-use Rattle.rm_machine_laws.specs.Wanted.{HasChangedSince, IsReadByBitmaps}
-use Rattle.rm_machine.proofs.FirstTold.{lie-below}
-use Rattle.rm_machine_laws.proofs.Bitmaps.{not-wanted, tell-switch_all}
+use Rattle.rm_machine.specs.{Asked.{blocks_read, candidates_in}, Backup.{AreJobs, rows_in, taken}, BackupOutcome.{begun}}
+use Rattle.rm_machine.specs.{Machine.{HistoryFits}, Sound.{IsSound}, Tracked.{AreTracked, IsTracked, switch_all, tracks, with_tracker}}
+use Rattle.rm_machine.specs.{State.{current_of, ledger, now_of, on_path, tree, world}, declared.{job.Job.{Job}, state.State.{State}}}
+use Rattle.rm_machine.proofs.{BackingUp.{IsNoCandidate}, ReadBlocks.{blocks-marked, marked-block}}
+use Rattle.rm_machine.proofs.{Tracked.{at-file, some-is, tracked-switch_all}, FirstTold.{lie-below}}
+use Rattle.rm_machine_laws.{specs.Wanted.{HasChangedSince, IsReadByBitmaps}, proofs.Bitmaps.{not-wanted, tell-switch_all}}
 
 -- Where the current bitmap starts
 

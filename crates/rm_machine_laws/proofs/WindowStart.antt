@@ -1,25 +1,14 @@
 -- A window has a start: each incarnation has a mark, and one of the current incarnation is on its path.
+use Rattle.std.specs.{Prelude.{unwrap_or}, Option.{option_map, option_or}}
 use Rattle.std.proofs.Common.{◌≡◌, ◌≤◌, ◌<◌, ◌∙◌, ◌⊎◌, inl, inr, ℕ, List, Option, Some, None, Bool, true, refl, ap, sym, subst, arith, find, reverse, Contains, is_some}
-use Rattle.std.specs.Prelude.{unwrap_or}
-use Rattle.std.specs.Option.{option_map, option_or}
-use Rattle.std.proofs.lemmas.Bool.{eq-eqb}
-use Rattle.std.proofs.lemmas.List.Elements.{All-contains}
-use Rattle.std.proofs.lemmas.List.Sorted.{Contains-permutation, IsPermutation-reverse, IsPermutation-sym}
-use Rattle.std.proofs.lemmas.Option.{same_Some}
-use Rattle.rm_base.specs.declared.block.Mark.{Mark}
-use Rattle.rm_base.specs.declared.kinds.Policy.TheVariants.{Window}
-use Rattle.rm_base.proofs.Lists.{find_cases, find_none}
-use Rattle.rm_history.specs.declared.tree.Incarnation.{Incarnation}
-use Rattle.rm_history.specs.Tree.{HasParentsBelow, is_within, reset_of, segment_end}
-use Rattle.rm_history.proofs.Paths.{segment_end-some}
-use Rattle.rm_history.proofs.Segments.{is_within_none}
-use Rattle.rm_catalog_typed.specs.LedgerFacts.{IsMark}
-use Rattle.rm_catalog_typed.proofs.Trees.{first-begins, parents_below}
+use Rattle.std.proofs.lemmas.{Bool.{eq-eqb}, List.Elements.{All-contains}}
+use Rattle.std.proofs.lemmas.{List.Sorted.{Contains-permutation, IsPermutation-reverse, IsPermutation-sym}, Option.{same_Some}}
+use Rattle.rm_base.{specs.declared.{block.Mark.{Mark}, kinds.Policy.TheVariants.{Window}}, proofs.Lists.{find_cases, find_none}}
+use Rattle.rm_history.specs.{Tree.{HasParentsBelow, is_within, reset_of, segment_end}, declared.tree.Incarnation.{Incarnation}}
+use Rattle.rm_history.proofs.{Paths.{segment_end-some}, Segments.{is_within_none}}
+use Rattle.rm_catalog_typed.{specs.LedgerFacts.{IsMark}, proofs.Trees.{first-begins, parents_below}}
 use Rattle.rm_retain.specs.Window.{first_on_path, is_old, is_on_path, last_old, window_start}
-use Rattle.rm_machine.specs.Obsolete.{start_by}
-use Rattle.rm_machine.specs.Sound.{IsSound}
-use Rattle.rm_machine.specs.declared.state.State.{State}
-use Rattle.rm_machine.specs.State.{current_of, ledger, tree}
+use Rattle.rm_machine.specs.{Obsolete.{start_by}, Sound.{IsSound}, State.{current_of, ledger, tree}, declared.state.State.{State}}
 
 -- an incarnation ends no segment of its own path
 none-own : (tree : List Incarnation) → HasParentsBelow tree → (i : ℕ) → 0 < i → (o : Option ℕ) → segment_end tree i i ≡ o → segment_end tree i i ≡ None

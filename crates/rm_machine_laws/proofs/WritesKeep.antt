@@ -1,54 +1,33 @@
 -- What a WRITE keeps of the history: one SCN further, its change is the last one.
-use Rattle.std.proofs.Common.{◌≡◌, ◌≢◌, ◌<◌, ◌≤◌, ◌+◌, ◌-◌, ◌∙◌, ◌++◌, ◌==◌, nat_lt, inl, inr, ℕ, suc, List, [], ◌∷◌, Some, true, false, refl, ap, sym, subst, arith, get_or}
 use Rattle.std.specs.Option.{option_map}
-use Rattle.std.proofs.lemmas.Bool.{and_parts, cases_eq, eqb-true, ltb-true}
-use Rattle.std.proofs.lemmas.List.{map_push}
+use Rattle.std.proofs.Common.{◌≡◌, ◌≢◌, ◌<◌, ◌≤◌, ◌+◌, ◌-◌, ◌∙◌, ◌++◌, ◌==◌, nat_lt, inl, inr, ℕ, suc, List, [], ◌∷◌, Some, true, false, refl, ap, sym, subst, arith, get_or}
+use Rattle.std.proofs.lemmas.{Bool.{and_parts, cases_eq, eqb-true, ltb-true}, List.{map_push}}
 use Rattle.std.proofs.lemmas.List.Elements.{All-contains, All-push, All-weaker}
-use Rattle.rm_base.specs.declared.block.BlockId.{BlockId}
-use Rattle.rm_base.specs.declared.block.Change.{Change}
-use Rattle.rm_base.specs.declared.block.Row.{Row}
-use Rattle.rm_base.specs.declared.kinds.Kind.{Kind}
-use Rattle.rm_base.specs.declared.kinds.Kind.TheVariants.{Full, Level0, Level1, Place}
-use Rattle.rm_base.proofs.Slots.{all-get, all-set_others, index-set}
+use Rattle.rm_base.specs.declared.{block.{BlockId.{BlockId}, Change.{Change}, Row.{Row}}, kinds.Kind.{Kind}}
+use Rattle.rm_base.{specs.declared.kinds.Kind.TheVariants.{Full, Level0, Level1, Place}, proofs.Slots.{all-get, all-set_others, index-set}}
 use Rattle.rm_blocks.specs.File.{File, IsInOrder, written}
 use Rattle.rm_lang_statement.specs.declared.command.WriteForm.{WriteForm}
-use Rattle.rm_history.specs.declared.tree.Incarnation.{Incarnation}
-use Rattle.rm_history.specs.declared.world.World.{World}
-use Rattle.rm_history.specs.Agrees.{LogAgrees, is_of}
-use Rattle.rm_history.specs.History.{IsChange, IsHistory}
-use Rattle.rm_history.specs.State.{state}
-use Rattle.rm_history.specs.Tree.{IsThere, end_of, owner}
+use Rattle.rm_history.specs.{Agrees.{LogAgrees, is_of}, History.{IsChange, IsHistory}, State.{state}, Tree.{IsThere, end_of, owner}}
+use Rattle.rm_history.specs.declared.{tree.Incarnation.{Incarnation}, world.World.{World}}
 use Rattle.rm_history.proofs.Below.{Further, agrees-further, agrees-pushed, concerns-other_block, concerns-other_file, is_of-from, is_of-not}
-use Rattle.rm_history.proofs.Ends.{owner-with_end}
-use Rattle.rm_history.proofs.Growth.{BaseAgrees-grown, Level1Agrees-grown, LogAgrees-grown, state-push_top}
-use Rattle.rm_history.proofs.Histories.{IsChange-with_end, IsHistory-push, state-push_other}
-use Rattle.rm_history.proofs.States.{concerns-parts, concerns-from}
+use Rattle.rm_history.proofs.{Ends.{owner-with_end}, Growth.{BaseAgrees-grown, Level1Agrees-grown, LogAgrees-grown, state-push_top}}
+use Rattle.rm_history.proofs.{Histories.{IsChange-with_end, IsHistory-push, state-push_other}, States.{concerns-parts, concerns-from}}
 use Rattle.rm_history.proofs.Worlds.{file-there}
 use Rattle.rm_catalog_typed.proofs.Trees.{own-at_end}
-use Rattle.rm_piece.specs.declared.piece.Piece.{Piece}
-use Rattle.rm_piece.specs.declared.set.SetFile.{SetFile}
-use Rattle.rm_piece.specs.Artefacts as piece
+use Rattle.rm_piece.specs.{Artefacts as piece, declared.{piece.Piece.{Piece}, set.SetFile.{SetFile}}}
+use Rattle.rm_redo.specs.{LogFile.{changes_in, log_of}, Online.{IsThread, record_of, thread_records, with_change}}
 use Rattle.rm_redo.specs.declared.online.LogRecord.{LogRecord}
-use Rattle.rm_redo.specs.LogFile.{changes_in, log_of}
-use Rattle.rm_redo.specs.Online.{IsThread, record_of, thread_records, with_change}
 use Rattle.rm_redo.proofs.Logs.{around-with_change, first_of-with_change, inc-with_change, is_lost-with_change, thread_records-with_change, thread_records-with_change_other}
-use Rattle.rm_track.specs.Bitmaps.{mark_at}
-use Rattle.rm_track.proofs.Telling.{marked-told}
-use Rattle.rm_machine.specs.Damage.{has_block}
-use Rattle.rm_machine.specs.Effect.{Artefact, a_log, a_piece, a_set}
+use Rattle.rm_track.{specs.Bitmaps.{mark_at}, proofs.Telling.{marked-told}}
+use Rattle.rm_machine.specs.{Damage.{has_block}, Effect.{Artefact, a_log, a_piece, a_set}}
 use Rattle.rm_machine.specs.Machine.{ArtefactAgrees, EndsWithin, HistoryFits, IsTrueArtefact, PieceAgrees, PieceEndsWithin, SoundRowsAre}
-use Rattle.rm_machine.specs.Sound.{IsSound}
-use Rattle.rm_machine.specs.declared.state.State.{State}
-use Rattle.rm_machine.specs.State.{current_of, is_lost, now_of, online, placed, redo_end, world}
-use Rattle.rm_machine.specs.Write.{change_of, with_write}
-use Rattle.rm_machine.proofs.Further.{further, inc-now, now-further, redo-now}
-use Rattle.rm_machine_laws.proofs.Bitmaps.{tell-later}
-use Rattle.rm_machine_laws.proofs.DamagedRows.{sound-agrees}
+use Rattle.rm_machine.specs.{Sound.{IsSound}, State.{current_of, is_lost, now_of, online, placed, redo_end, world}}
+use Rattle.rm_machine.specs.{Write.{change_of, with_write}, declared.state.State.{State}}
+use Rattle.rm_machine.proofs.{Further.{further, inc-now, now-further, redo-now}, Places.{placed-is}, Threads.{thread-before}}
+use Rattle.rm_machine.proofs.Writes.{Accepted}
+use Rattle.rm_machine_laws.proofs.{Bitmaps.{tell-later}, DamagedRows.{sound-agrees}}
 use Rattle.rm_machine_laws.proofs.Further.{below-redo, enabled-now, fits-further, owns-now, rows-further, same-further, state-further}
 use Rattle.rm_machine_laws.proofs.Grown.{true-on}
-use Rattle.rm_machine.proofs.Places.{placed-is}
-use Rattle.rm_machine.proofs.Threads.{thread-before}
-use Rattle.rm_machine.proofs.Writes.{Accepted}
 
 -- a record as the change of which it tells
 abbrev told : ℕ → ℕ → LogRecord → Change

@@ -1,22 +1,11 @@
 -- WRITE leads on: the history grows, and each artefact goes on to agree.
-use Rattle.std.proofs.Common.{◌≡◌, ◌∙◌, ◌++◌, ℕ, List, [], ◌∷◌, length, sym, subst}
-use Rattle.rm_base.specs.Store.{Held}
-use Rattle.rm_base.specs.declared.block.Change.{Change}
-use Rattle.std.proofs.lemmas.List.{append-nil}
-use Rattle.rm_lang_statement.specs.declared.command.WriteForm.{WriteForm}
-use Rattle.rm_machine.specs.Effect.{Effect, Made, no_effect}
-use Rattle.rm_machine.specs.Machine.{IsBorneOut}
-use Rattle.rm_machine.specs.declared.state.State.{State}
-use Rattle.rm_machine.specs.State.{ledger}
-use Rattle.rm_lang_statement.specs.declared.command.Command.TheVariants.{Write}
-use Rattle.rm_machine.specs.Write.{change_of, with_write}
-use Rattle.rm_machine.proofs.Kept.{stand-same}
-use Rattle.rm_machine.proofs.Later.{borne-beside}
-use Rattle.rm_machine_laws.proofs.Leading.{LeadsOnBy, StaysBy}
-use Rattle.rm_machine_laws.proofs.Quiet.{landed, same-stays}
-use Rattle.rm_machine.proofs.Writes.{Accepted, write-accepted}
-use Rattle.rm_machine_laws.proofs.WritesKeep.{keeps-write, made-write}
-use Rattle.rm_machine.proofs.WritesSound.{sound-write}
+use Rattle.std.proofs.{Common.{◌≡◌, ◌∙◌, ◌++◌, ℕ, List, [], ◌∷◌, length, sym, subst}, lemmas.List.{append-nil}}
+use Rattle.rm_base.specs.{Store.{Held}, declared.block.Change.{Change}}
+use Rattle.rm_lang_statement.specs.declared.command.{WriteForm.{WriteForm}, Command.TheVariants.{Write}}
+use Rattle.rm_machine.specs.{Effect.{Effect, Made, no_effect}, Machine.{IsBorneOut}, State.{ledger}, Write.{change_of, with_write}}
+use Rattle.rm_machine.{specs.declared.state.State.{State}, proofs.{Kept.{stand-same}, Later.{borne-beside}}}
+use Rattle.rm_machine.proofs.{Writes.{Accepted, write-accepted}, WritesSound.{sound-write}}
+use Rattle.rm_machine_laws.proofs.{Leading.{LeadsOnBy, StaysBy}, Quiet.{landed, same-stays}, WritesKeep.{keeps-write, made-write}}
 
 abbrev changed : State → WriteForm → Effect
 changed s w = record no_effect { changes = change_of s w ∷ [] }

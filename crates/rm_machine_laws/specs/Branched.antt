@@ -1,10 +1,7 @@
 -- A database that branched off, with a copy of the incarnation that it left and a level 1 of the one that it went on with.
 use Rattle.std.specs.Prelude.{ℕ, List, [], ◌∷◌}
-use Rattle.rm_base.specs.Content.{padded, zero_block}
-use Rattle.rm_base.specs.declared.block.Change.{Change}
-use Rattle.rm_history.specs.declared.world.World.{World}
-use Rattle.rm_history.specs.Artefacts.{Base, Level1}
-use Rattle.rm_history.specs.Evidence.{Evidence}
+use Rattle.rm_base.specs.{Content.{padded, zero_block}, declared.block.Change.{Change}}
+use Rattle.rm_history.specs.{Artefacts.{Base, Level1}, Evidence.{Evidence}, declared.world.World.{World}}
 
 -- incarnation 1 from SCN 1 on, incarnation 2 which branched off at 3, one thread, and a file of two blocks, created at 1
 abbrev pub branched : World

@@ -1,23 +1,13 @@
 -- What a statement hands out is carried out, or stopped.
 use Rattle.std.specs.Prelude.{ℕ, ◌≡◌, ◌≤◌, Option, Some, None, List}
-use Rattle.rm_base.specs.Numbers.{last_moment}
-use Rattle.rm_base.specs.Store.{Held}
-use Rattle.rm_catalog.specs.declared.record.Record.{Record}
-use Rattle.rm_catalog.specs.Edits.{after_edits}
-use Rattle.rm_commit.specs.declared.commit.Commit.{Commit}
-use Rattle.rm_commit.specs.Carrying.{Carried, Halted}
+use Rattle.rm_base.specs.{Numbers.{last_moment}, Store.{Held}}
+use Rattle.rm_catalog.specs.{Edits.{after_edits}, declared.record.Record.{Record}}
+use Rattle.rm_commit.specs.{Carrying.{Carried, Halted}, declared.commit.Commit.{Commit}}
 use Rattle.rm_lang_statement.specs.declared.command.Command.{Command}
-use Rattle.rm_report.specs.Reply.{said}
-use Rattle.rm_report.specs.declared.line.Line.{Line}
-use Rattle.rm_machine.specs.Effect.{Effect, LeavesObjects, Outcome, done}
-use Rattle.rm_machine.specs.Machine.{IsSoundMachine, Machine}
-use Rattle.rm_machine.specs.declared.state.State.{State}
-use Rattle.rm_machine.specs.State.{at_moment}
-use Rattle.rm_machine.specs.Step.{IsOutcome, IsOutcomeWithout, IsStatement, StepBy, and_drops}
-use Rattle.rm_machine_laws.specs.Holds.{records_in}
-use Rattle.rm_machine_laws.specs.Moments.{IsMomentIn}
-use Rattle.rm_machine_laws.specs.Steps.{StepsAt}
-use Rattle.rm_machine_laws.specs.Stopped.{StopsAt}
+use Rattle.rm_report.specs.{Reply.{said}, declared.line.Line.{Line}}
+use Rattle.rm_machine.specs.{Effect.{Effect, LeavesObjects, Outcome, done}, Machine.{IsSoundMachine, Machine}, State.{at_moment}}
+use Rattle.rm_machine.specs.{Step.{IsOutcome, IsOutcomeWithout, IsStatement, StepBy, and_drops}, declared.state.State.{State}}
+use Rattle.rm_machine_laws.specs.{Holds.{records_in}, Moments.{IsMomentIn}, Steps.{StepsAt}, Stopped.{StopsAt}}
 
 -- what a statement comes to at this moment, where there is a database or none
 abbrev pub IsOutcomeIn : Option State → Held → Command → ℕ → Outcome → Type 0

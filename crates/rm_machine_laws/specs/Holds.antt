@@ -1,11 +1,9 @@
 -- What the store and the keeper hold of a machine, and what the site shows of it.
-use Rattle.std.specs.Prelude.{◌≡◌, Bool, Option, Some, None, List, []}
-use Rattle.std.specs.Option.{option_and_then}
+use Rattle.std.specs.{Prelude.{◌≡◌, Bool, Option, Some, None, List, []}, Option.{option_and_then}}
 use Rattle.rm_base.specs.Store.{Held}
 use Rattle.rm_catalog.specs.declared.record.Record.{Record}
 use Rattle.rm_catalog_typed.specs.TypedCatalog.{Saved, all_records}
-use Rattle.rm_machine.specs.Machine.{Machine, IsSoundMachine}
-use Rattle.rm_machine.specs.Rest.{HaveParts, IsSoundRest, Rest, catalog_in}
+use Rattle.rm_machine.specs.{Machine.{Machine, IsSoundMachine}, Rest.{HaveParts, IsSoundRest, Rest, catalog_in}}
 use Rattle.rm_machine.specs.declared.state.State.{State}
 
 -- the records of the catalog, those of a saved site with them

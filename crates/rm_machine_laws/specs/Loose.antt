@@ -7,13 +7,8 @@ use Rattle.rm_commit.specs.Names.{is_named, itself, name_of}
 use Rattle.rm_lang_statement.specs.declared.command.Command.{Command}
 use Rattle.rm_evidence.specs.Names.{log_name, piece_name, roll_name, set_name, site_name}
 use Rattle.rm_report.specs.declared.line.Line.{Line}
-use Rattle.rm_machine.specs.Effect.{Effect, done}
-use Rattle.rm_machine.specs.Names.{IsObjectName}
-use Rattle.rm_machine.specs.Rest.{catalog_in}
-use Rattle.rm_machine.specs.Sound.{IsSound}
-use Rattle.rm_machine.specs.declared.state.State.{State}
-use Rattle.rm_machine.specs.State.{ledger}
-use Rattle.rm_machine.specs.Step.{IsOutcome, names_in}
+use Rattle.rm_machine.specs.{Effect.{Effect, done}, Names.{IsObjectName}, Rest.{catalog_in}, Sound.{IsSound}, State.{ledger}}
+use Rattle.rm_machine.specs.{Step.{IsOutcome, names_in}, declared.state.State.{State}}
 
 -- the object of one of the records has this name: of a log, a piece or a set, or of a part of a saved site
 pub data IsNamedBy (s : State) : List ℕ → Type 0 where

@@ -1,9 +1,7 @@
 -- The moment of a statement.
-use Rattle.std.specs.Prelude.{ℕ, ◌≤◌, max, min, Option}
-use Rattle.std.specs.Option.{option_map_or}
+use Rattle.std.specs.{Prelude.{ℕ, ◌≤◌, max, min, Option}, Option.{option_map_or}}
 use Rattle.rm_base.specs.Numbers.{last_moment}
-use Rattle.rm_machine.specs.declared.state.State.{State}
-use Rattle.rm_machine.specs.State.{ledger}
+use Rattle.rm_machine.specs.{State.{ledger}, declared.state.State.{State}}
 
 -- the latest moment that was kept, 0 where there is no database
 abbrev pub kept_moment : Option State → ℕ

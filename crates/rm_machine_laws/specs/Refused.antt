@@ -1,16 +1,9 @@
 -- What the state refuses, and how it is answered.
 use Rattle.std.specs.Prelude.{ℕ, ◌≡◌, nat_lt, if◌then◌else◌, Bool, true, Option, Some, None}
-use Rattle.rm_base.specs.declared.refusal.Refusal.{Refusal}
-use Rattle.rm_base.specs.declared.refusal.Refusal.TheVariants.{Rm02, Rm11}
-use Rattle.rm_base.specs.declared.refusal.Limit.TheVariants.{Threads}
-use Rattle.rm_lang_statement.specs.declared.command.Command.{Command}
-use Rattle.rm_lang_statement.specs.declared.command.Command.TheVariants.{CreateDatabase}
-use Rattle.rm_report.specs.Reply.{refused_by}
-use Rattle.rm_report.specs.declared.line.Reply.{Reply}
-use Rattle.rm_machine.specs.Nature.{nature_of, tries}
-use Rattle.rm_machine.specs.declared.state.State.{State}
-use Rattle.rm_machine.specs.State.{at_moment}
-use Rattle.rm_machine.specs.Step.{refusal_of}
+use Rattle.rm_base.specs.declared.refusal.{Refusal.{Refusal, TheVariants.{Rm02, Rm11}}, Limit.TheVariants.{Threads}}
+use Rattle.rm_lang_statement.specs.declared.command.Command.{Command, TheVariants.{CreateDatabase}}
+use Rattle.rm_report.specs.{Reply.{refused_by}, declared.line.Reply.{Reply}}
+use Rattle.rm_machine.specs.{Nature.{nature_of, tries}, State.{at_moment}, Step.{refusal_of}, declared.state.State.{State}}
 
 -- why CREATE DATABASE is refused where there is no database
 abbrev pub create_refusal : ℕ → Option Refusal

@@ -4,12 +4,8 @@ use Rattle.rm_base.specs.Store.{Held}
 use Rattle.rm_catalog.specs.declared.record.Record.{Record}
 use Rattle.rm_lang_statement.specs.declared.command.Command.{Command}
 use Rattle.rm_report.specs.declared.line.Reply.{Reply}
-use Rattle.rm_machine.specs.Laws.{only_tells}
-use Rattle.rm_machine.specs.Machine.{Machine}
-use Rattle.rm_machine.specs.Rest.{Rest, at_rest}
-use Rattle.rm_machine.specs.Saving.{IsSavedBy}
-use Rattle.rm_machine_laws.specs.Holds.{Holds, HoldsRest, Stands, View, saved_in}
-use Rattle.rm_machine_laws.specs.Stopped.{IsLeft}
+use Rattle.rm_machine.specs.{Laws.{only_tells}, Machine.{Machine}, Rest.{Rest, at_rest}, Saving.{IsSavedBy}}
+use Rattle.rm_machine_laws.specs.{Holds.{Holds, HoldsRest, Stands, View, saved_in}, Stopped.{IsLeft}}
 
 -- a list of edits was applied for the statement: it was not refused, and does more than tell
 abbrev pub applies : Command → Reply → Bool

@@ -2,17 +2,11 @@
 use Rattle.std.specs.Prelude.{ℕ, ◌≡◌, false, Option, Some, List}
 use Rattle.rm_base.specs.Store.{Held}
 use Rattle.rm_catalog.specs.declared.record.Record.{Record}
-use Rattle.rm_lang_statement.specs.declared.command.Command.{Command}
-use Rattle.rm_lang_statement.specs.declared.command.Command.TheVariants.{DeleteObsolete}
+use Rattle.rm_lang_statement.specs.declared.command.Command.{Command, TheVariants.{DeleteObsolete}}
 use Rattle.rm_report.specs.declared.line.Reply.{Reply}
-use Rattle.rm_machine.specs.Honest.{IsHonest}
-use Rattle.rm_machine.specs.Machine.{DigestsTell, Machine}
-use Rattle.rm_machine.specs.Obsolete.{IsSafe}
+use Rattle.rm_machine.specs.{Honest.{IsHonest}, Machine.{DigestsTell, Machine}, Obsolete.{IsSafe}, State.{at_moment}, Step.{Step}}
 use Rattle.rm_machine.specs.declared.state.State.{State}
-use Rattle.rm_machine.specs.State.{at_moment}
-use Rattle.rm_machine.specs.Step.{Step}
-use Rattle.rm_machine_laws.specs.Holds.{Holds, Stands, View}
-use Rattle.rm_machine_laws.specs.Moments.{moment_of}
+use Rattle.rm_machine_laws.specs.{Holds.{Holds, Stands, View}, Moments.{moment_of}}
 
 -- Whatever machine this database is of: where the world is honest, the step is that machine's, and what there is then
 -- is of the machine after it.

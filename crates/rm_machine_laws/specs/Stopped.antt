@@ -5,14 +5,9 @@ use Rattle.rm_catalog.specs.declared.record.Record.{Record}
 use Rattle.rm_lang_statement.specs.declared.command.Command.{Command}
 use Rattle.rm_evidence.specs.Names.{roll_name}
 use Rattle.rm_report.specs.declared.line.Reply.{Reply}
-use Rattle.rm_machine.specs.Honest.{IsHonest}
-use Rattle.rm_machine.specs.Machine.{Machine}
-use Rattle.rm_machine.specs.Rest.{Rest, catalog_in}
+use Rattle.rm_machine.specs.{Honest.{IsHonest}, Machine.{Machine}, Rest.{Rest, catalog_in}, Step.{Step, names_in}}
 use Rattle.rm_machine.specs.declared.state.State.{State}
-use Rattle.rm_machine.specs.Step.{Step, names_in}
-use Rattle.rm_machine_laws.specs.Holds.{Holds, HoldsRest, Stands, View}
-use Rattle.rm_machine_laws.specs.Loose.{IsGivenIn, IsLowIn, IsNamedIn}
-use Rattle.rm_machine_laws.specs.Moments.{moment_of}
+use Rattle.rm_machine_laws.specs.{Holds.{Holds, HoldsRest, Stands, View}, Loose.{IsGivenIn, IsLowIn, IsNamedIn}, Moments.{moment_of}}
 
 -- What is left of the machine n is at rest. Each object that a record names stands as it stood, and so does each increment under an
 -- id that was given. Other objects, and those under the names that HOST gives, may hold anything.

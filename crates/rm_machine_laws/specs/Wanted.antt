@@ -2,13 +2,9 @@
 use Rattle.std.specs.Prelude.{ℕ, ◌≡◌, ◌≤◌, ◌<◌, Some, IsSome, List, length}
 use Rattle.rm_base.specs.declared.block.Change.{Change}
 use Rattle.rm_live.specs.Ruled.{upto}
-use Rattle.rm_track.specs.Bitmaps.{Tracked, oldest, tracked_at}
-use Rattle.rm_track.specs.Told.{HasChange, IsChanged}
-use Rattle.rm_machine.specs.Asked.{blocks_read, candidates_in}
-use Rattle.rm_machine.specs.Backup.{rows_in}
-use Rattle.rm_machine.specs.declared.job.Job.{Job}
+use Rattle.rm_track.specs.{Bitmaps.{Tracked, oldest, tracked_at}, Told.{HasChange, IsChanged}}
+use Rattle.rm_machine.specs.{Asked.{blocks_read, candidates_in}, Backup.{rows_in}, State.{current_of, now_of}, declared.job.Job.{Job}}
 use Rattle.rm_machine.specs.declared.state.State.{State}
-use Rattle.rm_machine.specs.State.{current_of, now_of}
 
 -- by the history: a block that a level 1 wants has a change of the current incarnation from `low` on and below `now`
 abbrev pub HasChangedSince : State → List Change → ℕ → ℕ → ℕ → Type 0

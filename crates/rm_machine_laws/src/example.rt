@@ -1,10 +1,7 @@
 //! The premises of the theorems can be met, also where a database branched off.
 ghost use Rattle.std.specs.Prelude.{[], ◌∷◌};
 ghost use Rattle.rm_base.specs.Content.{padded, zero_block};
-ghost use Rattle.rm_history.specs.Evidence.{Agrees};
-ghost use Rattle.rm_history.specs.FirstGap.{HasGap, IsTarget};
-ghost use Rattle.rm_history.specs.History.{IsHistory};
-ghost use Rattle.rm_history.specs.Known.{Determined};
+ghost use Rattle.rm_history.specs.{Evidence.{Agrees}, FirstGap.{HasGap, IsTarget}, History.{IsHistory}, Known.{Determined}};
 ghost use Rattle.rm_history.specs.Unknown.{IsWorld};
 ghost use Rattle.rm_machine_laws.specs.Branched.{both, branched, two};
 

@@ -2,22 +2,11 @@
 ghost use Rattle.std.specs.Prelude.{ℕ, ◌≡◌, ◌≤◌, false, List, Option};
 ghost use Rattle.rm_base.specs.Store.{Held};
 ghost use Rattle.rm_catalog.specs.declared.record.Record.{Record};
-ghost use Rattle.rm_lang_statement.specs.declared.command.Command.{Command};
-ghost use Rattle.rm_lang_statement.specs.declared.command.Command.TheVariants.{CreateDatabase};
-ghost use Rattle.rm_report.specs.declared.line.Line.{Line};
-ghost use Rattle.rm_report.specs.declared.line.Reply.{Reply};
-ghost use Rattle.rm_machine.specs.Effect.{Effect, done};
-ghost use Rattle.rm_machine.specs.Laws.{LeadsOn, StaysSound};
-ghost use Rattle.rm_machine.specs.Machine.{Machine};
-ghost use Rattle.rm_machine.specs.Marks.{lacks_ids};
-ghost use Rattle.rm_machine.specs.Rest.{at_rest};
-ghost use Rattle.rm_machine.specs.Sound.{IsSound};
-ghost use Rattle.rm_machine.specs.State.{ledger};
-ghost use Rattle.rm_machine.specs.Step.{IsOutcome};
-ghost use Rattle.rm_machine.specs.declared.state.State.{State};
-ghost use Rattle.rm_machine_laws.specs.Carries.{CarriesOn, LeadsOnWithout, StopsWell};
-ghost use Rattle.rm_machine_laws.specs.Holds.{Holds, HoldsRest, View};
-ghost use Rattle.rm_machine_laws.specs.Loose.{StaysLoose};
+ghost use Rattle.rm_lang_statement.specs.declared.command.Command.{Command, TheVariants.{CreateDatabase}};
+ghost use Rattle.rm_report.specs.declared.line.{Line.{Line}, Reply.{Reply}};
+ghost use Rattle.rm_machine.specs.{Effect.{Effect, done}, Laws.{LeadsOn, StaysSound}, Machine.{Machine}, Marks.{lacks_ids}, Rest.{at_rest}};
+ghost use Rattle.rm_machine.specs.{Sound.{IsSound}, State.{ledger}, Step.{IsOutcome}, declared.state.State.{State}};
+ghost use Rattle.rm_machine_laws.specs.{Carries.{CarriesOn, LeadsOnWithout, StopsWell}, Holds.{Holds, HoldsRest, View}, Loose.{StaysLoose}};
 ghost use Rattle.rm_machine_laws.specs.Steps.{DeletesSafely, Steps};
 
 /// Where what is at hand leads the machine on, what a statement hands out and is carried out is a step of the

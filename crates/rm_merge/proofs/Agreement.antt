@@ -1,15 +1,10 @@
 -- A row of a copy is a state on the path of a level 1 that meets it.
-use Rattle.std.proofs.Common.{◌≡◌, ◌<◌, ◌≤◌, ◌+◌, ◌∙◌, inl, inr, ℕ, List, true, refl, ap, sym, subst, arith, Contains}
 use Rattle.std.specs.Option.{option_map_or}
+use Rattle.std.proofs.Common.{◌≡◌, ◌<◌, ◌≤◌, ◌+◌, ◌∙◌, inl, inr, ℕ, List, true, refl, ap, sym, subst, arith, Contains}
 use Rattle.std.proofs.lemmas.Bool.{cases_lt}
-use Rattle.rm_base.specs.declared.block.Change.{Change}
-use Rattle.rm_base.specs.declared.block.Row.{Row}
-use Rattle.rm_history.specs.declared.world.World.{World}
-use Rattle.rm_history.specs.Agrees.{IsRow, IsBelow}
-use Rattle.rm_history.specs.History.{IsHistory}
-use Rattle.rm_history.specs.State.{concerns, state, IsState}
-use Rattle.rm_history.specs.Tree.{owner}
-use Rattle.rm_history.specs.World.{blocks_of, creation_of}
+use Rattle.rm_base.specs.declared.block.{Change.{Change}, Row.{Row}}
+use Rattle.rm_history.specs.{Agrees.{IsRow, IsBelow}, History.{IsHistory}, State.{concerns, state, IsState}, Tree.{owner}}
+use Rattle.rm_history.specs.{World.{blocks_of, creation_of}, declared.world.World.{World}}
 use Rattle.rm_history.proofs.States.{concerns-parts, concerns-from, concerns-risen, state-held, state-one}
 
 -- a state has its file's creation at least

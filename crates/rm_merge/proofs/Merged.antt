@@ -1,31 +1,15 @@
 -- A merged copy agrees with what both of its parts agree with, and is valid.
-use Rattle.std.proofs.Common.{◌≡◌, ◌≢◌, ◌⊎◌, ◌<◌, ◌≤◌, ◌∙◌, inl, inr, nat_lt, ℕ, List, Option, None, Bool, true, false, cond, refl, ap, sym, subst, arith, length, get_or, eqb, All, Contains}
 use Rattle.std.specs.List.{AllPairs}
-use Rattle.std.proofs.lemmas.Bool.{eqb-true, false_from_ne_true}
-use Rattle.std.proofs.lemmas.Bool.Decides.{nat_tests}
-use Rattle.std.proofs.lemmas.List.{get_or-map, get_or_default, length-map}
-use Rattle.std.proofs.lemmas.List.Elements.{All-map}
-use Rattle.std.proofs.lemmas.List.Folds.{list_any_none}
-use Rattle.rm_base.specs.Numbers.{last_scn}
-use Rattle.rm_base.specs.declared.block.Change.{Change}
-use Rattle.rm_base.specs.declared.block.Row.{Row}
-use Rattle.rm_base.specs.declared.kinds.Kind.{Kind}
-use Rattle.rm_base.specs.declared.kinds.Kind.TheVariants.{Full, Level0, Level1}
-use Rattle.rm_base.proofs.Lists.{map_from, find_cases, find_none}
-use Rattle.rm_history.specs.declared.tree.Incarnation.{Incarnation}
-use Rattle.rm_history.specs.declared.world.World.{World}
-use Rattle.rm_history.specs.Agrees.{IsRow, BaseAgrees, Level1Agrees, lists}
-use Rattle.rm_history.specs.Artefacts.{high_of}
-use Rattle.rm_history.specs.History.{IsHistory}
-use Rattle.rm_history.specs.Tree.{IsThere, IsTree}
-use Rattle.rm_history.proofs.Highs.{high-least, high-above}
-use Rattle.rm_history.proofs.Segments.{is_within_alike}
-use Rattle.rm_piece.specs.declared.piece.Piece.{Piece}
-use Rattle.rm_piece.specs.Artefacts.{base_of, level1_of}
-use Rattle.rm_piece.specs.Valid as valid
-use Rattle.rm_piece.proofs.Whole.{full}
-use Rattle.rm_merge.specs.Merge.{AreOf, Meets, row_at, greater, merged, merged_rows}
-use Rattle.rm_merge.proofs.Agreement.{stays_listed, stays_unlisted}
+use Rattle.std.proofs.Common.{◌≡◌, ◌≢◌, ◌⊎◌, ◌<◌, ◌≤◌, ◌∙◌, inl, inr, nat_lt, ℕ, List, Option, None, Bool, true, false, cond, refl, ap, sym, subst, arith, length, get_or, eqb, All, Contains}
+use Rattle.std.proofs.lemmas.{Bool.{eqb-true, false_from_ne_true, Decides.{nat_tests}}, List.{get_or-map, get_or_default, length-map}}
+use Rattle.std.proofs.lemmas.List.{Elements.{All-map}, Folds.{list_any_none}}
+use Rattle.rm_base.specs.{Numbers.{last_scn}, declared.{block.{Change.{Change}, Row.{Row}}, kinds.Kind.{Kind}}}
+use Rattle.rm_base.{specs.declared.kinds.Kind.TheVariants.{Full, Level0, Level1}, proofs.Lists.{map_from, find_cases, find_none}}
+use Rattle.rm_history.specs.{Agrees.{IsRow, BaseAgrees, Level1Agrees, lists}, Artefacts.{high_of}, History.{IsHistory}}
+use Rattle.rm_history.specs.{Tree.{IsThere, IsTree}, declared.{tree.Incarnation.{Incarnation}, world.World.{World}}}
+use Rattle.rm_history.proofs.{Highs.{high-least, high-above}, Segments.{is_within_alike}}
+use Rattle.rm_piece.{specs.{Valid as valid, Artefacts.{base_of, level1_of}, declared.piece.Piece.{Piece}}, proofs.Whole.{full}}
+use Rattle.rm_merge.{specs.Merge.{AreOf, Meets, row_at, greater, merged, merged_rows}, proofs.Agreement.{stays_listed, stays_unlisted}}
 
 lt_holds : (a b : ℕ) → nat_lt a b ≡ true → a < b
 lt_holds a b h = grind (arith, nat_tests)

@@ -1,14 +1,10 @@
 -- Rows that stand at the places of their blocks, and one row more of the level 1.
+use Rattle.std.specs.{List.{AllPairs}, Option.{option_or}}
 use Rattle.std.proofs.Common.{◌≡◌, ◌≢◌, ◌<◌, ◌∙◌, ◌∷◌, [], inl, inr, ℕ, suc, List, Option, Some, None, Bool, false, cond, refl, ap, sym, arith, length, find, take, get_or, set, All, eqb, get_or-set_same, get_or-set_other, length-set}
-use Rattle.std.specs.List.{AllPairs}
-use Rattle.std.specs.Option.{option_or}
-use Rattle.std.proofs.Math.Seq.{take-suc}
-use Rattle.std.proofs.lemmas.Bool.{cases_eq, eq-eqb, ne_eqb}
-use Rattle.std.proofs.lemmas.List.{ext_get_or, get_or-map, get_or-take, get_or_default, length-map, length-take-le}
-use Rattle.std.proofs.lemmas.List.Folds.{find-append}
+use Rattle.std.proofs.{Math.Seq.{take-suc}, lemmas.Bool.{cases_eq, eq-eqb, ne_eqb}}
+use Rattle.std.proofs.lemmas.List.{ext_get_or, get_or-map, get_or-take, get_or_default, length-map, length-take-le, Folds.{find-append}}
 use Rattle.rm_base.specs.declared.block.Row.{Row}
-use Rattle.rm_piece.specs.Rows.{IsWhole}
-use Rattle.rm_piece.specs.Valid.{IsBefore}
+use Rattle.rm_piece.specs.{Rows.{IsWhole}, Valid.{IsBefore}}
 use Rattle.rm_merge.specs.Merge.{AreOf, row_at, greater, merged_rows}
 
 find_none_all : {X : Type 0} (p : X → Bool) (xs : List X) → All (λ x. p x ≡ false) xs → find p xs ≡ None

@@ -1,26 +1,14 @@
 -- How high a merged copy reaches.
+use Rattle.std.specs.{List.{AllPairs}, Option.{option_map_or}}
 use Rattle.std.proofs.Common.{◌≡◌, ◌<◌, ◌≤◌, ◌∙◌, ◌&&◌, inl, inr, nat_le, nat_lt, ℕ, List, Option, Some, Bool, true, false, cond, max, refl, ap, sym, subst, arith, length, get_or, eqb, All, Contains}
-use Rattle.std.specs.List.{AllPairs}
-use Rattle.std.specs.Option.{option_map_or}
-use Rattle.std.proofs.lemmas.Bool.{eqb-true, eq-eqb}
-use Rattle.std.proofs.lemmas.Bool.Decides.{nat_tests}
-use Rattle.std.proofs.lemmas.List.{get_or_default, get_or-map, length-map}
+use Rattle.std.proofs.lemmas.{Bool.{eqb-true, eq-eqb, Decides.{nat_tests}}, List.{get_or_default, get_or-map, length-map}}
 use Rattle.std.proofs.lemmas.List.Elements.{All-map, All-contains}
-use Rattle.rm_base.specs.declared.block.Row.{Row}
-use Rattle.rm_base.proofs.Lists.{find_cases, find_none}
-use Rattle.rm_history.specs.declared.tree.Incarnation.{Incarnation}
-use Rattle.rm_history.specs.Tree.{IsTree, IsThere, is_on_path, is_within, segment_end}
-use Rattle.rm_history.proofs.Paths.{is_on_path-member}
-use Rattle.rm_history.proofs.Segments.{within_both}
-use Rattle.rm_history.proofs.States.{both-hold}
-use Rattle.rm_piece.specs.declared.piece.Piece.{Piece}
-use Rattle.rm_piece.specs.Rows.{IsHigh, IsWhole}
-use Rattle.rm_piece.specs.Valid.{IsPiece, IsBefore}
-use Rattle.rm_piece.proofs.Highs.{high_of-is, IsHigh-one}
-use Rattle.rm_piece.proofs.Whole.{placed}
-use Rattle.rm_merge.specs.Merge.{AreOf, Meets, row_at, greater, merged, merged_rows}
-use Rattle.rm_base.proofs.Keyed.{same_item}
-use Rattle.rm_merge.proofs.Merged.{listed, no_level1}
+use Rattle.rm_base.{specs.declared.block.Row.{Row}, proofs.{Lists.{find_cases, find_none}, Keyed.{same_item}}}
+use Rattle.rm_history.specs.{Tree.{IsTree, IsThere, is_on_path, is_within, segment_end}, declared.tree.Incarnation.{Incarnation}}
+use Rattle.rm_history.proofs.{Paths.{is_on_path-member}, Segments.{within_both}, States.{both-hold}}
+use Rattle.rm_piece.specs.{Rows.{IsHigh, IsWhole}, Valid.{IsPiece, IsBefore}, declared.piece.Piece.{Piece}}
+use Rattle.rm_piece.proofs.{Highs.{high_of-is, IsHigh-one}, Whole.{placed}}
+use Rattle.rm_merge.{specs.Merge.{AreOf, Meets, row_at, greater, merged, merged_rows}, proofs.Merged.{listed, no_level1}}
 
 -- neither row is above the one that is kept, and it is below what both are below
 keeps_both : (r n : Row) (b : Bool) → nat_lt n.version r.version ≡ b → (r.version ≤ (cond b r n).version) × (n.version ≤ (cond b r n).version)

@@ -1,13 +1,9 @@
 -- A copy that takes over the rows of a level 1.
 use Rattle.std.specs.Prelude.{ℕ, ◌≡◌, ◌<◌, ◌≤◌, ◌⊎◌, ◌==◌, nat_lt, if◌then◌else◌, IsTrue, List, map, find, Option, Some, None, All}
 use Rattle.std.specs.List.{AllPairs}
-use Rattle.rm_base.specs.declared.block.Row.{Row}
-use Rattle.rm_base.specs.declared.kinds.Kind.TheVariants.{Full, Level0, Level1}
-use Rattle.rm_history.specs.declared.tree.Incarnation.{Incarnation}
-use Rattle.rm_history.specs.Artefacts.{high_of}
-use Rattle.rm_history.specs.Tree.{is_within}
-use Rattle.rm_piece.specs.declared.piece.Piece.{Piece}
-use Rattle.rm_piece.specs.Valid.{IsBefore}
+use Rattle.rm_base.specs.declared.{block.Row.{Row}, kinds.Kind.TheVariants.{Full, Level0, Level1}}
+use Rattle.rm_history.specs.{Artefacts.{high_of}, Tree.{is_within}, declared.tree.Incarnation.{Incarnation}}
+use Rattle.rm_piece.specs.{Valid.{IsBefore}, declared.piece.Piece.{Piece}}
 
 -- the copy and the level 1 meet: the level 1 tells of each change from the copy's checkpoint on
 pub record Meets (tree : List Incarnation) (copy level1 : Piece) : Type 0 where

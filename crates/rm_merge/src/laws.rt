@@ -1,14 +1,9 @@
 //! What a merged copy tells.
 ghost use Rattle.std.specs.Prelude.{ℕ, ◌≡◌, max, IsTrue, List};
 ghost use Rattle.rm_base.specs.declared.block.Change.{Change};
-ghost use Rattle.rm_history.specs.declared.tree.Incarnation.{Incarnation};
-ghost use Rattle.rm_history.specs.declared.world.World.{World};
-ghost use Rattle.rm_history.specs.Tree.{IsThere, IsTree, is_within};
-ghost use Rattle.rm_history.specs.History.{IsHistory};
-ghost use Rattle.rm_history.specs.Agrees.{BaseAgrees, Level1Agrees};
-ghost use Rattle.rm_piece.specs.declared.piece.Piece.{Piece};
-ghost use Rattle.rm_piece.specs.Artefacts.{base_of, level1_of};
-ghost use Rattle.rm_piece.specs.Valid.{IsPiece};
+ghost use Rattle.rm_history.specs.{Tree.{IsThere, IsTree, is_within}, History.{IsHistory}, Agrees.{BaseAgrees, Level1Agrees}};
+ghost use Rattle.rm_history.specs.declared.{tree.Incarnation.{Incarnation}, world.World.{World}};
+ghost use Rattle.rm_piece.specs.{Artefacts.{base_of, level1_of}, Valid.{IsPiece}, declared.piece.Piece.{Piece}};
 ghost use Rattle.rm_merge.specs.Merge.{Meets, merged};
 
 /// A merged copy agrees with each history that both of its parts agree with.

@@ -2,8 +2,7 @@
 ghost use Rattle.std.specs.Prelude.{◌≡◌, ◌≢◌, ◌↔◌, ◌⊎◌, IsTrue, IfOk, IsErrOf, Some, length};
 ghost use Rattle.rm_base.specs.declared.kinds.Kind.TheVariants.{Full, Level0, Level1};
 ghost use Rattle.rm_history.specs.Tree.{IsThere};
-ghost use Rattle.rm_piece.specs.Rows.{IsWhole};
-ghost use Rattle.rm_piece.specs.Valid.{IsPiece};
+ghost use Rattle.rm_piece.specs.{Rows.{IsWhole}, Valid.{IsPiece}};
 ghost use Rattle.rm_merge.specs.Merge.{AreOf, Meets, greater as greater_of, merged, merged_rows as merged_of};
 
 use rm_base::{Kind, NoMemory, Row, Seq};

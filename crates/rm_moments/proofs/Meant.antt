@@ -1,24 +1,14 @@
 -- The moment that is computed is the one that the text means.
+use Rattle.std.specs.{Char.{to_ascii_lowercase}, Str.{str_to_ascii_lowercase, Parse.{digits_value}}}
 use Rattle.std.proofs.Common.{◌≡◌, ◌∙◌, refl, sym, ap, subst, inl, inr, ℕ, ◌+◌, ◌-◌, ◌*◌, ◌/◌, ◌%◌, ◌<◌, ◌≤◌, ◌≤ℤ◌, ◌*ℤ◌, ◌+ℤ◌, ℤ, pos, negsuc, unsigned_abs, List, ◌∷◌, ◌++◌, length, drop, true, false, codes, arith, length-drop, drop-drop}
-use Rattle.std.specs.Char.{to_ascii_lowercase}
-use Rattle.std.specs.Str.{str_to_ascii_lowercase}
-use Rattle.std.specs.Str.Parse.{digits_value}
-use Rattle.std.proofs.lemmas.Bool.{false_from_ne_true, cases_Bool}
-use Rattle.std.proofs.lemmas.Slice.Eq.{bytes_eq-Decides}
-use Rattle.jiff_core.specs.declared.civil.datetime.DateTime.{DateTime}
-use Rattle.jiff_core.specs.Date.{epoch_day}
-use Rattle.jiff_core.specs.DateTime.{civil_seconds}
-use Rattle.jiff_core.specs.Time.{time_seconds}
+use Rattle.std.proofs.lemmas.{Bool.{false_from_ne_true, cases_Bool}, Slice.Eq.{bytes_eq-Decides}}
+use Rattle.jiff_core.specs.{Date.{epoch_day}, DateTime.{civil_seconds}, Time.{time_seconds}, declared.civil.datetime.DateTime.{DateTime}}
 use Rattle.jiff_core.proofs.SignedLemmas.{signed_arith}
 use Rattle.rm_base.specs.Numbers.{last_moment}
-use Rattle.rm_moments.specs.Meaning.{Ago, IsAgo, IsSysdate, MeansMoment, Now, Shown}
-use Rattle.rm_moments.specs.Text.{IsAt, shown, two}
-use Rattle.rm_moments.specs.Times.{is_sysdate, is_time_text}
-use Rattle.rm_moments.proofs.Dates.{at_within, since_1970}
-use Rattle.rm_moments.proofs.Days.{ago-digits, length-sysdate}
-use Rattle.rm_moments.proofs.Digits.{fields_of, fields_of-small}
+use Rattle.rm_moments.specs.{Meaning.{Ago, IsAgo, IsSysdate, MeansMoment, Now, Shown}, Text.{IsAt, shown, two}}
+use Rattle.rm_moments.{specs.{Times.{is_sysdate, is_time_text}, Meant.{moment_meant, seconds_at}}, proofs.Dates.{at_within, since_1970}}
+use Rattle.rm_moments.proofs.{Days.{ago-digits, length-sysdate}, Digits.{fields_of, fields_of-small}}
 use Rattle.rm_moments.proofs.Known.{ago_test, fields_read, means_time, sysdate_test, time_means}
-use Rattle.rm_moments.specs.Meant.{moment_meant, seconds_at}
 
 -- what passes the test of SYSDATE is it
 test-sysdate : (word : List ℕ) → is_sysdate word ≡ true → IsSysdate word

@@ -1,10 +1,8 @@
 -- The moment that the text of an UNTIL TIME means.
-use Rattle.std.specs.Prelude.{ℕ, ◌+◌, ◌*◌, not, if◌then◌else◌, List, drop, pos, unsigned_abs}
-use Rattle.std.specs.Option.{option_map_or}
+use Rattle.std.specs.{Prelude.{ℕ, ◌+◌, ◌*◌, not, if◌then◌else◌, List, drop, pos, unsigned_abs}, Option.{option_map_or}}
 use Rattle.std.specs.Str.Parse.{digits_value}
 use Rattle.jiff_core.specs.Calendar.{days_from_civil}
-use Rattle.rm_moments.specs.Meaning.{days_before}
-use Rattle.rm_moments.specs.Times.{fields_at, is_ago, is_sysdate, is_time_text}
+use Rattle.rm_moments.specs.{Meaning.{days_before}, Times.{fields_at, is_ago, is_sysdate, is_time_text}}
 
 -- the seconds from 1970-01-01 00:00:00 to a date and time of UTC
 abbrev pub seconds_at : ℕ → ℕ → ℕ → ℕ → ℕ → ℕ → ℕ

@@ -1,14 +1,10 @@
 -- The rows of all blocks, from those that were written.
 use Rattle.std.proofs.Common.{◌≡◌, ◌∙◌, ◌+◌, ◌<◌, ◌≤◌, ℕ, zero, suc, List, [], ◌∷◌, ◌++◌, Bool, true, false, cond, eqb, nat_lt, if◌then◌else◌, append_assoc, refl, ap, sym, subst, inl, inr, arith, length, get_or, filter, All}
-use Rattle.std.proofs.lemmas.Bool.{cases_Bool, cases_eq, eq-eqb, le-ltb, lt-ltb, ltb-false, ltb-true, ne_eqb}
-use Rattle.std.proofs.lemmas.List.{length-append}
+use Rattle.std.proofs.lemmas.{Bool.{cases_Bool, cases_eq, eq-eqb, le-ltb, lt-ltb, ltb-false, ltb-true, ne_eqb}, List.{length-append}}
 use Rattle.std.proofs.lemmas.List.Elements.{All-filter, All-cons, All-nil, filter-append, filter_passes}
-use Rattle.rm_base.specs.Created.{created_row}
-use Rattle.rm_base.specs.declared.block.Row.{Row}
-use Rattle.rm_base.proofs.Items.{All-tail}
+use Rattle.rm_base.{specs.{Created.{created_row}, declared.block.Row.{Row}}, proofs.Items.{All-tail}}
 use Rattle.rm_history.specs.State.{rows_from}
-use Rattle.rm_piece.specs.Filling.{next_left, next_or, over, IsAbove, IsFilled}
-use Rattle.rm_piece.specs.Sets.{written, IsSince}
+use Rattle.rm_piece.specs.{Filling.{next_left, next_or, over, IsAbove, IsFilled}, Sets.{written, IsSince}}
 
 other_block : (a b : ℕ) → b < a → eqb a b ≡ false
 other_block a b h = ne_eqb a b (λ same. omega (arith, h, same))

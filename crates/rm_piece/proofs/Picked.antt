@@ -1,26 +1,13 @@
 -- The rows of version at least `from` as a level 1.
 use Rattle.std.proofs.Common.{◌≡◌, ◌≢◌, ◌<◌, ◌≤◌, ◌∙◌, inl, inr, nat_le, ℕ, List, [], true, false, refl, sym, subst, arith, length, get_or, eqb, Contains}
-use Rattle.std.proofs.lemmas.Bool.{cases_lt, eq-eqb}
-use Rattle.std.proofs.lemmas.Bool.Decides.{nat_tests}
-use Rattle.std.proofs.lemmas.List.{get_or_default}
-use Rattle.std.proofs.lemmas.List.Elements.{All-contains}
-use Rattle.std.proofs.lemmas.List.Folds.{list_any-from_Any}
-use Rattle.std.proofs.lemmas.List.Kept.{AllPairs-filter}
-use Rattle.rm_base.specs.declared.block.Change.{Change}
-use Rattle.rm_base.specs.declared.block.Row.{Row}
-use Rattle.rm_base.specs.declared.kinds.Kind.TheVariants.{Level1}
+use Rattle.std.proofs.lemmas.{Bool.{cases_lt, eq-eqb, Decides.{nat_tests}}, List.{get_or_default, Elements.{All-contains}}}
+use Rattle.std.proofs.lemmas.List.{Folds.{list_any-from_Any}, Kept.{AllPairs-filter}}
+use Rattle.rm_base.specs.declared.{block.{Change.{Change}, Row.{Row}}, kinds.Kind.TheVariants.{Level1}}
 use Rattle.rm_base.proofs.Lists.{filter_from, filter_to}
+use Rattle.rm_history.specs.{Agrees as agrees, Agrees.{IsBelow, BaseAgrees, Level1Agrees, lists}, State.{state}, World.{blocks_of}}
 use Rattle.rm_history.specs.declared.world.World.{World}
-use Rattle.rm_history.specs.Agrees.{IsBelow, BaseAgrees, Level1Agrees, lists}
-use Rattle.rm_history.specs.Agrees as agrees
-use Rattle.rm_history.specs.State.{state}
-use Rattle.rm_history.specs.World.{blocks_of}
-use Rattle.rm_piece.specs.declared.piece.Piece.{Piece}
-use Rattle.rm_piece.specs.Artefacts.{base_of, level1_of}
-use Rattle.rm_piece.specs.Level1s.{AreRead, IsRead, picked}
-use Rattle.rm_piece.specs.Rows.{from_on}
-use Rattle.rm_piece.specs.Valid.{IsPiece, IsRow, IsBefore}
-use Rattle.rm_piece.proofs.Whole.{full, placed}
+use Rattle.rm_piece.specs.{Artefacts.{base_of, level1_of}, Level1s.{AreRead, IsRead, picked}, Rows.{from_on}}
+use Rattle.rm_piece.{specs.{Valid.{IsPiece, IsRow, IsBefore}, declared.piece.Piece.{Piece}}, proofs.Whole.{full, placed}}
 
 le_holds : (a b : ℕ) → nat_le a b ≡ true → a ≤ b
 le_holds a b h = grind (arith, nat_tests)

@@ -1,27 +1,13 @@
 -- Rows as they count in a set.
 use Rattle.std.proofs.Common.{◌≡◌, ◌≢◌, ◌∙◌, ◌<◌, ◌≤◌, ℕ, List, [], ◌∷◌, if◌then◌else◌, nat_le, inl, inr, refl, ap, sym, subst, arith, length, get_or, map, All, Contains}
-use Rattle.std.proofs.lemmas.Bool.{cases_lt, lt-ltb, le-ltb, le-leb}
-use Rattle.std.proofs.lemmas.List.{get_or-map, length-map}
+use Rattle.std.proofs.lemmas.{Bool.{cases_lt, lt-ltb, le-ltb, le-leb}, List.{get_or-map, length-map}}
 use Rattle.std.proofs.lemmas.List.Elements.{All-contains_itself, All-filter, All-map}
-use Rattle.rm_base.specs.Created.{created_row}
-use Rattle.rm_base.specs.Numbers.{last_scn}
-use Rattle.rm_base.specs.declared.block.Change.{Change}
-use Rattle.rm_base.specs.declared.block.Row.{Row}
-use Rattle.rm_base.specs.declared.kinds.Kind.TheVariants.{Place}
-use Rattle.rm_base.proofs.Items.{All-tail}
-use Rattle.rm_history.specs.declared.world.World.{World}
-use Rattle.rm_history.specs.Agrees.{IsRow as IsState}
-use Rattle.rm_history.specs.History.{IsHistory}
-use Rattle.rm_history.specs.State.{state}
-use Rattle.rm_history.specs.World.{creation_of}
-use Rattle.rm_history.proofs.States.{concerns-risen, state-held}
-use Rattle.rm_piece.specs.declared.set.Set.{Set}
-use Rattle.rm_piece.specs.declared.set.SetFile.{SetFile}
-use Rattle.rm_piece.specs.Filling.{risen}
-use Rattle.rm_piece.specs.Rows.{IsWhole, from_on}
-use Rattle.rm_piece.specs.Sets.{IsMember, IsOf, IsSince}
-use Rattle.rm_piece.specs.Valid.{IsPiece, IsRow}
-use Rattle.rm_piece.proofs.Filled.{at_creation, filter-all}
+use Rattle.rm_base.specs.{Created.{created_row}, Numbers.{last_scn}, declared.block.{Change.{Change}, Row.{Row}}}
+use Rattle.rm_base.{specs.declared.kinds.Kind.TheVariants.{Place}, proofs.Items.{All-tail}}
+use Rattle.rm_history.specs.{Agrees.{IsRow as IsState}, History.{IsHistory}, State.{state}, World.{creation_of}}
+use Rattle.rm_history.{specs.declared.world.World.{World}, proofs.States.{concerns-risen, state-held}}
+use Rattle.rm_piece.specs.{Filling.{risen}, Rows.{IsWhole, from_on}, Sets.{IsMember, IsOf, IsSince}, Valid.{IsPiece, IsRow}}
+use Rattle.rm_piece.{specs.declared.set.{Set.{Set}, SetFile.{SetFile}}, proofs.Filled.{at_creation, filter-all}}
 
 -- ---- one row
 

@@ -1,14 +1,8 @@
 -- The bytes before the digest tell the set.
-use Rattle.std.proofs.Common.{◌≡◌, ◌∙◌, ◌^◌, ◌<◌, ℕ, List, ◌∷◌, ◌++◌, length, sym, append_assoc}
-use Rattle.std.proofs.lemmas.List.{length-append}
-use Rattle.rm_base.specs.Number.{four, eight}
-use Rattle.rm_base.proofs.Wide.{length-four, length-eight, four_same, eight_same}
-use Rattle.rm_piece.specs.declared.set.Set.{Set}
-use Rattle.rm_piece.specs.declared.set.SetFile.{SetFile}
-use Rattle.rm_piece.specs.SetFits.{MemberHeadFits, SetHeadFits}
-use Rattle.rm_piece.specs.SetSpelling.{member_head, set_head, set_magic}
-use Rattle.rm_piece.specs.Spelling.{code_of}
-use Rattle.rm_piece.proofs.Bodies.{code_same}
+use Rattle.std.proofs.{Common.{◌≡◌, ◌∙◌, ◌^◌, ◌<◌, ℕ, List, ◌∷◌, ◌++◌, length, sym, append_assoc}, lemmas.List.{length-append}}
+use Rattle.rm_base.{specs.Number.{four, eight}, proofs.Wide.{length-four, length-eight, four_same, eight_same}}
+use Rattle.rm_piece.specs.{SetFits.{MemberHeadFits, SetHeadFits}, SetSpelling.{member_head, set_head, set_magic}, Spelling.{code_of}}
+use Rattle.rm_piece.{specs.declared.set.{Set.{Set}, SetFile.{SetFile}}, proofs.Bodies.{code_same}}
 
 -- ---- the head of a set
 

@@ -1,21 +1,12 @@
 -- What a valid set that the bytes spell tells of what was read of them.
-use Rattle.std.proofs.Common.{◌≡◌, ◌∙◌, ◌+◌, ◌-◌, ◌*◌, ◌^◌, ◌<◌, ◌≤◌, ℕ, List, [], ◌∷◌, ◌++◌, length, take, drop, All, ap, sym, subst, arith, append_assoc, append-nil}
 use Rattle.std.specs.List.{flat_map}
-use Rattle.std.proofs.lemmas.List.{length-append, take-append-drop}
-use Rattle.std.proofs.lemmas.List.Concat.{flat_map-append}
-use Rattle.std.proofs.lemmas.List.Elements.{All-contains, Contains-append_right}
-use Rattle.std.proofs.lemmas.List.Sums.{sum_by-append, sum_by-cons, sum_by_push}
-use Rattle.rm_base.specs.declared.block.Row.{Row}
-use Rattle.rm_base.proofs.Members.{in-front}
-use Rattle.rm_piece.specs.declared.set.Set.{Set}
-use Rattle.rm_piece.specs.declared.set.SetFile.{SetFile}
-use Rattle.rm_piece.specs.Filling.{IsSpread}
-use Rattle.rm_piece.specs.Fits.{RowFits}
-use Rattle.rm_piece.specs.SetFits.{MemberHeadFits, SetHeadFits}
-use Rattle.rm_piece.specs.SetSpelling.{member_bytes, member_head, set_body, set_head, spelled}
-use Rattle.rm_piece.specs.Sets.{blocks_in, written, IsMember, IsSet}
-use Rattle.rm_piece.specs.Spelling.{row_bytes}
-use Rattle.rm_piece.proofs.Bodies.{row_same, length-rows}
+use Rattle.std.proofs.Common.{◌≡◌, ◌∙◌, ◌+◌, ◌-◌, ◌*◌, ◌^◌, ◌<◌, ◌≤◌, ℕ, List, [], ◌∷◌, ◌++◌, length, take, drop, All, ap, sym, subst, arith, append_assoc, append-nil}
+use Rattle.std.proofs.lemmas.List.{length-append, take-append-drop, Concat.{flat_map-append}}
+use Rattle.std.proofs.lemmas.List.{Elements.{All-contains, Contains-append_right}, Sums.{sum_by-append, sum_by-cons, sum_by_push}}
+use Rattle.rm_base.{specs.declared.block.Row.{Row}, proofs.Members.{in-front}}
+use Rattle.rm_piece.specs.{Filling.{IsSpread}, Fits.{RowFits}, SetFits.{MemberHeadFits, SetHeadFits}}
+use Rattle.rm_piece.specs.{SetSpelling.{member_bytes, member_head, set_body, set_head, spelled}, Sets.{blocks_in, written, IsMember, IsSet}}
+use Rattle.rm_piece.{specs.{Spelling.{row_bytes}, declared.set.{Set.{Set}, SetFile.{SetFile}}}, proofs.Bodies.{row_same, length-rows}}
 use Rattle.rm_piece.proofs.Fronts.{items_front, items_next, NextItem}
 use Rattle.rm_piece.proofs.SetBodies.{SameMemberHead, SameSetHead, length-set_head, member_head_same, set_head_same}
 use Rattle.rm_piece.proofs.SetFitting.{few_members, length-member, member_fits, member_same, moved, set_fits, spelled_few, spelled_fits, spread, with_rows}

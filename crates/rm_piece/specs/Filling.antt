@@ -1,9 +1,7 @@
 -- Rows of all blocks, and rows that stand in the place of some of them.
 use Rattle.std.specs.Prelude.{ℕ, ◌≡◌, ◌<◌, ◌≤◌, ◌==◌, nat_lt, if◌then◌else◌, List, [], ◌∷◌, All, length}
-use Rattle.rm_base.specs.Created.{created_row}
-use Rattle.rm_base.specs.declared.block.Row.{Row}
-use Rattle.rm_piece.specs.Rows.{IsWhole}
-use Rattle.rm_piece.specs.Sets.{IsSince}
+use Rattle.rm_base.specs.{Created.{created_row}, declared.block.Row.{Row}}
+use Rattle.rm_piece.specs.{Rows.{IsWhole}, Sets.{IsSince}}
 
 -- a row as it counts in a set: one of a version up to the creation is the zero row at the creation
 abbrev pub risen : ℕ → Row → Row

@@ -1,13 +1,7 @@
 -- The one spelling of each set of pieces.
-use Rattle.std.specs.Prelude.{ℕ, List, [], ◌∷◌, ◌++◌, length, codes}
-use Rattle.std.specs.List.{flat_map}
-use Rattle.rm_base.specs.Number.{four, eight}
-use Rattle.rm_base.specs.Sealed.{sealed}
-use Rattle.rm_base.specs.declared.block.Row.{Row}
-use Rattle.rm_piece.specs.declared.set.Set.{Set}
-use Rattle.rm_piece.specs.declared.set.SetFile.{SetFile}
-use Rattle.rm_piece.specs.Sets.{written}
-use Rattle.rm_piece.specs.Spelling.{code_of, row_bytes}
+use Rattle.std.specs.{Prelude.{ℕ, List, [], ◌∷◌, ◌++◌, length, codes}, List.{flat_map}}
+use Rattle.rm_base.specs.{Number.{four, eight}, Sealed.{sealed}, declared.block.Row.{Row}}
+use Rattle.rm_piece.specs.{Sets.{written}, Spelling.{code_of, row_bytes}, declared.set.{Set.{Set}, SetFile.{SetFile}}}
 
 -- "RMST" and the format's number
 abbrev pub set_magic : List ℕ

@@ -1,12 +1,7 @@
 -- Which sets of pieces are valid.
-use Rattle.std.specs.Prelude.{ℕ, ◌≡◌, ◌≢◌, ◌<◌, ◌≤◌, ◌^◌, List, nat_lt, filter, length, All}
-use Rattle.std.specs.List.{AllPairs, sum_by}
-use Rattle.rm_base.specs.Content.{zero_block}
-use Rattle.rm_base.specs.declared.block.Row.{Row}
-use Rattle.rm_base.specs.declared.kinds.Kind.TheVariants.{Place}
-use Rattle.rm_piece.specs.declared.set.Set.{Set}
-use Rattle.rm_piece.specs.declared.set.SetFile.{SetFile}
-use Rattle.rm_piece.specs.Valid.{IsPiece}
+use Rattle.std.specs.{Prelude.{ℕ, ◌≡◌, ◌≢◌, ◌<◌, ◌≤◌, ◌^◌, List, nat_lt, filter, length, All}, List.{AllPairs, sum_by}}
+use Rattle.rm_base.specs.{Content.{zero_block}, declared.{block.Row.{Row}, kinds.Kind.TheVariants.{Place}}}
+use Rattle.rm_piece.specs.{Valid.{IsPiece}, declared.set.{Set.{Set}, SetFile.{SetFile}}}
 
 -- its version is not below the creation, and at the creation it is zero
 pub record IsSince (creation : ℕ) (r : Row) : Type 0 where

@@ -1,20 +1,9 @@
 //! The rows of a datafile as they count in a set.
 ghost use Rattle.std.specs.Prelude.{ℕ, ◌≡◌, ◌≢◌, ◌<◌, ◌≤◌, List, All, Contains, IfOk, length, map};
-ghost use Rattle.rm_base.specs.Numbers.{last_scn};
-ghost use Rattle.rm_base.specs.declared.block.Change.{Change};
-ghost use Rattle.rm_base.specs.declared.block.Row.{Row};
-ghost use Rattle.rm_base.specs.declared.kinds.Kind.TheVariants.{Place};
-ghost use Rattle.rm_history.specs.declared.world.World.{World};
-ghost use Rattle.rm_history.specs.Agrees.{IsRow as IsState};
-ghost use Rattle.rm_history.specs.History.{IsHistory};
-ghost use Rattle.rm_history.specs.World.{creation_of};
-ghost use Rattle.rm_piece.specs.declared.piece.Piece.{Piece};
-ghost use Rattle.rm_piece.specs.declared.set.Set.{Set};
-ghost use Rattle.rm_piece.specs.declared.set.SetFile.{SetFile};
-ghost use Rattle.rm_piece.specs.Filling.{risen};
-ghost use Rattle.rm_piece.specs.Rows.{IsWhole, from_on};
-ghost use Rattle.rm_piece.specs.Sets.{IsMember, IsOf, IsSince};
-ghost use Rattle.rm_piece.specs.Valid.{IsPiece, IsRow};
+ghost use Rattle.rm_base.specs.{Numbers.{last_scn}, declared.{block.{Change.{Change}, Row.{Row}}, kinds.Kind.TheVariants.{Place}}};
+ghost use Rattle.rm_history.specs.{Agrees.{IsRow as IsState}, History.{IsHistory}, World.{creation_of}, declared.world.World.{World}};
+ghost use Rattle.rm_piece.specs.{Filling.{risen}, Rows.{IsWhole, from_on}, Sets.{IsMember, IsOf, IsSince}, Valid.{IsPiece, IsRow}};
+ghost use Rattle.rm_piece.specs.declared.{piece.Piece.{Piece}, set.{Set.{Set}, SetFile.{SetFile}}};
 
 use crate::set_filling::created_row;
 use rm_base::{NoMemory, Row, Scn, Seq};

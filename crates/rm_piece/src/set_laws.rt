@@ -1,9 +1,6 @@
 //! What the definitions of a set as bytes mean.
-ghost use Rattle.std.specs.Prelude.{◌≡◌, ◌≤◌, ◌+◌, ◌*◌, length};
-ghost use Rattle.std.specs.List.{sum_by};
-ghost use Rattle.rm_piece.specs.declared.set.Set.{Set};
-ghost use Rattle.rm_piece.specs.SetSpelling.{set_spelling, spelled};
-ghost use Rattle.rm_piece.specs.Sets.{blocks_in, IsSet};
+ghost use Rattle.std.specs.{Prelude.{◌≡◌, ◌≤◌, ◌+◌, ◌*◌, length}, List.{sum_by}};
+ghost use Rattle.rm_piece.specs.{SetSpelling.{set_spelling, spelled}, Sets.{blocks_in, IsSet}, declared.set.Set.{Set}};
 
 /// A valid set has one spelling, and bytes spell one valid set at most.
 pub fn bytes_spell_one_set()

@@ -1,13 +1,10 @@
 //! A set from its bytes.
 ghost use Rattle.std.specs.Prelude.{ℕ, ◌≡◌, ◌≢◌, ◌+◌, ◌<◌, ◌≤◌, ◌^◌, ◌++◌, List, length, All, IfOk, IfSome, IfNone, MatchResult};
 ghost use Rattle.std.specs.List.{flat_map};
-ghost use Rattle.rm_base.specs.Formats.{Reads};
-ghost use Rattle.rm_base.specs.declared.faults.FormatFault.TheVariants.{NoMemory as WithoutMemory};
-ghost use Rattle.rm_piece.specs.declared.set.Set.{Set};
-ghost use Rattle.rm_piece.specs.declared.set.SetFile.{SetFile};
+ghost use Rattle.rm_base.specs.{Formats.{Reads}, declared.faults.FormatFault.TheVariants.{NoMemory as WithoutMemory}};
 ghost use Rattle.rm_piece.specs.SetFits.{MemberHeadFits, SetHeadFits};
 ghost use Rattle.rm_piece.specs.SetSpelling.{member_bytes, member_head, set_body, set_head, set_magic, set_spelling};
-ghost use Rattle.rm_piece.specs.Sets.{blocks_in, IsMember, IsOf, IsSet};
+ghost use Rattle.rm_piece.specs.{Sets.{blocks_in, IsMember, IsOf, IsSet}, declared.set.{Set.{Set}, SetFile.{SetFile}}};
 
 use crate::piece::Piece;
 use crate::reading::{kind_of, rows_of};

@@ -1,6 +1,5 @@
 //! The rules of a valid set.
-ghost use Rattle.std.specs.Prelude.{◌≡◌, ◌≢◌, ◌↔◌, ◌<◌, ◌≤◌, ◌^◌, IsTrue, All, length};
-ghost use Rattle.std.specs.List.{AllPairs};
+ghost use Rattle.std.specs.{Prelude.{◌≡◌, ◌≢◌, ◌↔◌, ◌<◌, ◌≤◌, ◌^◌, IsTrue, All, length}, List.{AllPairs}};
 ghost use Rattle.rm_base.specs.declared.kinds.Kind.TheVariants.{Place};
 ghost use Rattle.rm_piece.specs.Sets.{blocks_in, IsBeforeMember, IsMember, IsOf, IsSet, IsSince};
 

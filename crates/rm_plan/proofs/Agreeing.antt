@@ -1,13 +1,10 @@
 -- How far the path of an incarnation agrees with that of a target.
 use Rattle.std.proofs.Common.{◌≡◌, ◌<◌, ◌≤◌, ◌+◌, ◌-◌, ◌∙◌, ◌∷◌, ◌++◌, [], inl, inr, ℕ, List, min, false, cond, eqb, length, get_or, ap, sym, subst, arith}
-use Rattle.std.proofs.lemmas.Bool.{cases_lt, ne_eqb}
-use Rattle.std.proofs.lemmas.List.{get_or_append_left, get_or_push, length_push}
+use Rattle.std.proofs.lemmas.{Bool.{cases_lt, ne_eqb}, List.{get_or_append_left, get_or_push, length_push}}
 use Rattle.rm_base.specs.Numbers.{last_scn}
-use Rattle.rm_history.specs.declared.tree.Incarnation.{Incarnation}
-use Rattle.rm_history.specs.Tree.{HasParentsBelow, IsShared, owner, reset_of}
+use Rattle.rm_history.specs.{Tree.{HasParentsBelow, IsShared, owner, reset_of}, declared.tree.Incarnation.{Incarnation}}
 use Rattle.rm_history.proofs.Owners.{owner-owner}
-use Rattle.rm_plan.specs.declared.span.Span.{Span}
-use Rattle.rm_plan.specs.Ways.{AreWays, IsWay, nowhere}
+use Rattle.rm_plan.specs.{Ways.{AreWays, IsWay, nowhere}, declared.span.Span.{Span}}
 
 -- where two paths have one owner of an SCN, they have one owner of each SCN below it
 pub alike_below : (tree : List Incarnation) → HasParentsBelow tree → (i j g c : ℕ) → owner tree i g ≡ owner tree j g → c ≤ g → owner tree i c ≡ owner tree j c

@@ -1,21 +1,11 @@
 -- The rows of some blocks, one after another.
 use mathlib.Core.List.{map-append}
 use Rattle.std.proofs.Common.{◌≡◌, ◌∙◌, ◌+◌, ◌<◌, ℕ, List, [], ◌∷◌, ◌++◌, All, drop, get_or, length, map, take, refl, ap, subst, sym, append_assoc, take-append-drop}
-use Rattle.std.proofs.lemmas.List.{take_more}
-use Rattle.std.proofs.lemmas.List.Elements.{All-cons, All-nil}
-use Rattle.rm_base.specs.declared.block.Block.{Block}
-use Rattle.rm_base.specs.declared.block.BlockId.{BlockId}
-use Rattle.rm_base.specs.declared.block.Part.{Part}
-use Rattle.rm_base.specs.declared.block.Row.{Row}
-use Rattle.rm_history.specs.declared.world.World.{World}
-use Rattle.rm_history.specs.Evidence.{Evidence}
-use Rattle.rm_history.specs.FirstGap.{IsDetermined}
-use Rattle.rm_plan.specs.Blocks.{AreToldRows, NamesFirstOf}
-use Rattle.rm_plan.specs.Chosen.{AreToldParts, IsFaultOf, id_of, row_of}
-use Rattle.rm_plan.specs.Plan.{IsFault, NamesGap, Tells}
-use Rattle.rm_plan.specs.declared.plan.Gap.{Gap}
-use Rattle.rm_plan.specs.declared.plan.PlanFault.{PlanFault}
-use Rattle.rm_plan.specs.declared.plan.PlanFault.TheVariants as fault
+use Rattle.std.proofs.lemmas.List.{take_more, Elements.{All-cons, All-nil}}
+use Rattle.rm_base.specs.declared.block.{Block.{Block}, BlockId.{BlockId}, Part.{Part}, Row.{Row}}
+use Rattle.rm_history.specs.{Evidence.{Evidence}, FirstGap.{IsDetermined}, declared.world.World.{World}}
+use Rattle.rm_plan.specs.{Blocks.{AreToldRows, NamesFirstOf}, Chosen.{AreToldParts, IsFaultOf, id_of, row_of}}
+use Rattle.rm_plan.specs.{Plan.{IsFault, NamesGap, Tells}, declared.plan.{Gap.{Gap}, PlanFault.{PlanFault, TheVariants as fault}}}
 
 module _ (w : World) (e : Evidence) (i s : ℕ) where
   -- rows of two lists of blocks

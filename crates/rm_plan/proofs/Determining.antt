@@ -1,55 +1,27 @@
 -- What rows, records and covers tell of a block is what is determined of it.
+use Rattle.std.specs.{List.{list_any}, Option.{option_map_or}}
 use Rattle.std.proofs.Common.{◌≡◌, ◌<◌, ◌≤◌, ◌⊎◌, ◌==◌, ◌&&◌, ◌||◌, ◌∙◌, nat_lt, nat_le, inl, inr, ℕ, zero, suc, List, Option, Some, None, not, Bool, true, false, cond, max, min, get_or, refl, ap, sym, subst, arith, Contains}
-use Rattle.std.specs.List.{list_any}
-use Rattle.std.specs.Option.{option_map_or}
-use Rattle.std.proofs.lemmas.Bool.{cases_Bool, cases_lt}
-use Rattle.std.proofs.lemmas.List.{get_or_default}
-use Rattle.std.proofs.lemmas.List.Elements.{All-contains}
+use Rattle.std.proofs.lemmas.{Bool.{cases_Bool, cases_lt}, List.{get_or_default, Elements.{All-contains}}}
+use Rattle.rm_base.specs.{Content.{zero_block}, Numbers.{last_scn}, declared.block.{Block.{Block}, Change.{Change}, Row.{Row}}}
 use Rattle.rm_base.proofs.Lists.{any_from, any_to, map_from, map_to}
-use Rattle.rm_base.specs.Content.{zero_block}
-use Rattle.rm_base.specs.Numbers.{last_scn}
-use Rattle.rm_base.specs.declared.block.Block.{Block}
-use Rattle.rm_base.specs.declared.block.Change.{Change}
-use Rattle.rm_base.specs.declared.block.Row.{Row}
+use Rattle.rm_evidence.specs.{Known.{FitsLog, FitsPiece, FitsTree, known_of}, Database.{IsCreated, IsSoundWorld}}
 use Rattle.rm_evidence.specs.declared.evidence.Evidence.{Evidence}
-use Rattle.rm_evidence.specs.Known.{FitsLog, FitsPiece, FitsTree, known_of}
-use Rattle.rm_history.specs.Agrees.{lists}
-use Rattle.rm_history.specs.Artefacts.{Level1, Log}
-use Rattle.rm_history.specs.declared.world.Datafile.{Datafile}
-use Rattle.rm_history.specs.declared.world.World.{World}
-use Rattle.rm_history.specs.Tree.{HasParentsBelow, IsThere, owner, reset_of}
-use Rattle.rm_history.specs.Threads.{IsEnabled, is_enabled}
-use Rattle.rm_history.specs.World.{creation_of, file_of}
-use Rattle.rm_history.proofs.Owners.{owner-begun, owner-here}
-use Rattle.rm_history.specs.Evidence as known
-use Rattle.rm_history.specs.FirstGap.{HasGap, IsTarget}
+use Rattle.rm_history.specs.{Evidence as known, Agrees.{lists}, Artefacts.{Level1, Log}, Tree.{HasParentsBelow, IsThere, owner, reset_of}}
+use Rattle.rm_history.specs.{Threads.{IsEnabled, is_enabled}, World.{creation_of, file_of}, FirstGap.{HasGap, IsTarget}}
 use Rattle.rm_history.specs.Known.{Determined, HasLog, IsGreatest, Quiet, Seen, by_absence, by_creation, by_log, by_logs, by_row}
-use Rattle.rm_history.specs.Unknown.{IsWorld}
-use Rattle.rm_history.proofs.Enabled.{enabled-owner}
-use Rattle.rm_history.proofs.Facts.{told-is-true, behind-a-gap}
-use Rattle.rm_evidence.specs.Database.{IsCreated, IsSoundWorld}
-use Rattle.rm_piece.specs.Artefacts.{level1_of}
-use Rattle.rm_piece.specs.declared.piece.Piece.{Piece}
-use Rattle.rm_piece.specs.Valid.{IsRow}
-use Rattle.rm_plan.specs.declared.entry.Entry.{Entry}
-use Rattle.rm_plan.specs.declared.plan.Told.{Told}
-use Rattle.rm_plan.specs.declared.survey.Survey.{Survey}
-use Rattle.rm_plan.specs.declared.span.Span.{Span}
+use Rattle.rm_history.specs.{Unknown.{IsWorld}, declared.world.{Datafile.{Datafile}, World.{World}}}
+use Rattle.rm_history.proofs.{Owners.{owner-begun, owner-here}, Enabled.{enabled-owner}, Facts.{told-is-true, behind-a-gap}}
+use Rattle.rm_piece.specs.{Artefacts.{level1_of}, Valid.{IsRow}, declared.piece.Piece.{Piece}}
 use Rattle.rm_plan.specs.Covers.{is_covered, is_unlisted, level1_covers, log_covers, threads_cover}
 use Rattle.rm_plan.specs.Entries.{no_entry, entry_of, after_version, looked_on_way, after_own_row, after_counted_row, record_counts}
-use Rattle.rm_plan.specs.Idle.{is_idle}
-use Rattle.rm_plan.specs.Plan.{NamesGap, Tells}
-use Rattle.rm_plan.specs.Spans.{lies_in}
-use Rattle.rm_plan.specs.Survey.{IsFirstUncovered, IsSurvey, astray_block}
-use Rattle.rm_plan.specs.Ways.{AreWays, IsWay, way_of}
+use Rattle.rm_plan.specs.{Idle.{is_idle}, Plan.{NamesGap, Tells}, Spans.{lies_in}, Survey.{IsFirstUncovered, IsSurvey, astray_block}}
+use Rattle.rm_plan.specs.{Ways.{AreWays, IsWay, way_of}, declared.{entry.Entry.{Entry}, plan.Told.{Told}, survey.Survey.{Survey}}}
+use Rattle.rm_plan.specs.declared.span.Span.{Span}
 use Rattle.rm_plan.proofs.Artefacts.{IsAmong, LogRow, PieceRow, change_from, change_to, change_of, row_from, row_to}
 use Rattle.rm_plan.proofs.Conditions.{and_from, and_to, counts_from, counts_to, eq_from, eq_to, exists_from, lt_false, lt_from, lt_true, not_from, not_to, or_first, or_from, or_second, within_from, within_to}
 use Rattle.rm_plan.proofs.Parts.{within_file}
 use Rattle.rm_plan.proofs.Steps.{Keeps, base_meets, entry_keeps, from_start, later_reaches, level1_meets, reach_lasts, record_meets, stray_lasts, version_lasts}
-use Rattle.rm_redo.specs.declared.log_file.LogFile.{LogFile}
-use Rattle.rm_redo.specs.declared.online.LogRecord.{LogRecord}
-use Rattle.rm_redo.specs.LogFile.{log_of}
-use Rattle.rm_redo.specs.LogFormat.{IsLogRecord}
+use Rattle.rm_redo.specs.{LogFile.{log_of}, LogFormat.{IsLogRecord}, declared.{log_file.LogFile.{LogFile}, online.LogRecord.{LogRecord}}}
 
 -- Above the greatest version that is seen no log at hand has a record of the block on the path, so it
 -- is quiet wherever each thread that is enabled has a log.

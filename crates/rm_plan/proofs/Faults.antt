@@ -1,13 +1,8 @@
 -- The fault of a block as the fault of its file.
-use Rattle.std.proofs.Common.{◌≡◌, ◌<◌, ℕ, List, Result, Ok, Err, IfErr, sym, subst}
-use Rattle.std.specs.Result.{IsErrAnd}
+use Rattle.std.{specs.Result.{IsErrAnd}, proofs.Common.{◌≡◌, ◌<◌, ℕ, List, Result, Ok, Err, IfErr, sym, subst}}
 use Rattle.rm_base.specs.declared.block.Part.{Part}
-use Rattle.rm_history.specs.declared.world.World.{World}
-use Rattle.rm_history.specs.World.{blocks_of}
-use Rattle.rm_history.specs.Evidence.{Evidence}
-use Rattle.rm_plan.specs.declared.plan.PlanFault.{PlanFault}
-use Rattle.rm_plan.specs.declared.plan.PlanFault.TheVariants as fault
-use Rattle.rm_plan.specs.Plan.{AreParts, IsFault, IsFileFault}
+use Rattle.rm_history.specs.{World.{blocks_of}, Evidence.{Evidence}, declared.world.World.{World}}
+use Rattle.rm_plan.specs.{Plan.{AreParts, IsFault, IsFileFault}, declared.plan.PlanFault.{PlanFault, TheVariants as fault}}
 use Rattle.rm_plan.proofs.Parts.{first_gap}
 
 -- what is true of a fault is true of the one that is handed on

@@ -1,23 +1,13 @@
 -- The switches of a redo thread in order tell where it is enabled.
+use Rattle.std.specs.{Prelude.{IsPermutation}, List.Sorted.{IsNonDecreasingBy}}
 use Rattle.std.proofs.Common.{◌≡◌, ◌<◌, ◌≤◌, ◌∙◌, ◌⊎◌, ◌==◌, ◌&&◌, ◌||◌, ◌+◌, nat_le, nat_lt, inl, inr, ℕ, suc, List, [], ◌∷◌, ◌++◌, Option, Some, None, Bool, true, false, cond, fold, not, refl, ap, sym, subst, arith, filter, get_or, length, take, All, Contains}
-use Rattle.std.specs.Prelude.{IsPermutation}
-use Rattle.std.specs.List.Sorted.{IsNonDecreasingBy}
-use Rattle.std.proofs.lemmas.Bool.{and_from, and_parts, cases_lt, eq-eqb, eqb-true, lt-ltb, ltb-true}
-use Rattle.std.proofs.lemmas.Bool.Decides.{nat_tests}
-use Rattle.std.proofs.lemmas.List.{get_or_default, take_all, take_more}
-use Rattle.std.proofs.lemmas.List.Elements.{Contains-get_or}
-use Rattle.std.proofs.lemmas.List.Sorted.{Contains-permutation, IsPermutation-sym}
-use Rattle.std.proofs.lemmas.List.Sums.{fold-append}
-use Rattle.rm_base.proofs.Lists.{filter_from, filter_to}
-use Rattle.rm_base.proofs.Members.{in-front, behind, none-in, first-or-rest}
-use Rattle.rm_history.specs.declared.tree.Incarnation.{Incarnation}
-use Rattle.rm_history.specs.declared.world.Switch.{Switch}
-use Rattle.rm_history.specs.Threads.{applies, is_enabled, is_on, last_switch}
-use Rattle.rm_history.specs.Tree.{owner}
-use Rattle.rm_history.proofs.Enabled.{IsLast, applies-from, applies-parts, last-is}
-use Rattle.rm_plan.specs.declared.span.Span.{Span}
-use Rattle.rm_plan.specs.Idle.{AreApart, after_one, is_below, on_after}
-use Rattle.rm_plan.specs.Spans.{covers, lies_in}
+use Rattle.std.proofs.lemmas.Bool.{and_from, and_parts, cases_lt, eq-eqb, eqb-true, lt-ltb, ltb-true, Decides.{nat_tests}}
+use Rattle.std.proofs.lemmas.List.{get_or_default, take_all, take_more, Elements.{Contains-get_or}}
+use Rattle.std.proofs.lemmas.List.{Sorted.{Contains-permutation, IsPermutation-sym}, Sums.{fold-append}}
+use Rattle.rm_base.proofs.{Lists.{filter_from, filter_to}, Members.{in-front, behind, none-in, first-or-rest}}
+use Rattle.rm_history.specs.{Threads.{applies, is_enabled, is_on, last_switch}, Tree.{owner}, declared.tree.Incarnation.{Incarnation}}
+use Rattle.rm_history.{specs.declared.world.Switch.{Switch}, proofs.Enabled.{IsLast, applies-from, applies-parts, last-is}}
+use Rattle.rm_plan.specs.{Idle.{AreApart, after_one, is_below, on_after}, Spans.{covers, lies_in}, declared.span.Span.{Span}}
 
 -- a switch below s, by its parts
 record IsBelow (tree : List Incarnation) (i s t : ℕ) (x : Switch) : Type 0 where

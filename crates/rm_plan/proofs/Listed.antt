@@ -1,13 +1,8 @@
 -- Whether a block is listed, by a binary search.
+use Rattle.std.specs.{List.Sorted.{IsSearchInRange, IsBinarySearchResult, IsNonDecreasingBy}, Ordering.{nat_cmp, ordering_index}}
 use Rattle.std.proofs.Common.{◌≡◌, ◌<◌, ◌==◌, ℕ, true, false, List, length, get_or, AllPairs, Result, Ok, Err, is_ok, inl, inr, ap, sym, arith}
-use Rattle.std.specs.List.Sorted.{IsSearchInRange, IsBinarySearchResult, IsNonDecreasingBy}
-use Rattle.std.specs.Ordering.{nat_cmp, ordering_index}
-use Rattle.std.proofs.lemmas.Bool.{cases_lt}
-use Rattle.std.proofs.lemmas.Bool.Decides.{nat_tests}
-use Rattle.std.proofs.lemmas.Cmp.{ranked}
-use Rattle.std.proofs.lemmas.List.Folds.{list_any_at, list_any_none}
-use Rattle.rm_base.specs.Content.{zero_block}
-use Rattle.rm_base.specs.declared.block.Row.{Row}
+use Rattle.std.proofs.lemmas.{Bool.{cases_lt, Decides.{nat_tests}}, Cmp.{ranked}, List.Folds.{list_any_at, list_any_none}}
+use Rattle.rm_base.specs.{Content.{zero_block}, declared.block.Row.{Row}}
 use Rattle.rm_history.specs.Agrees.{lists}
 use Rattle.rm_piece.specs.Valid.{IsBefore}
 

@@ -1,14 +1,11 @@
 -- Sets of SCNs, as lists of spans.
 use Rattle.std.proofs.Common.{◌≡◌, ◌<◌, ◌≤◌, ◌+◌, ◌-◌, ◌∙◌, ◌&&◌, ◌||◌, inl, inr, nat_lt, nat_le, ℕ, zero, suc, Bool, true, false, List, [], ◌∷◌, ◌++◌, length, get_or, drop, max, refl, ap, sym, subst, arith}
-use Rattle.std.proofs.lemmas.Bool.{cases_lt}
-use Rattle.std.proofs.lemmas.Bool.Decides.{nat_tests}
+use Rattle.std.proofs.lemmas.Bool.{cases_lt, Decides.{nat_tests}}
 use Rattle.std.proofs.lemmas.List.{drop_more, get_or-drop, get_or_append_left, get_or_default, get_or_push, length-drop, length_push}
-use Rattle.std.proofs.lemmas.List.Folds.{list_any-append, list_any_at, list_any_none}
-use Rattle.std.proofs.lemmas.List.Quantifiers.{all_pairs_push}
+use Rattle.std.proofs.lemmas.List.{Folds.{list_any-append, list_any_at, list_any_none}, Quantifiers.{all_pairs_push}}
 use Rattle.std.proofs.lemmas.List.Sorted.{IsNonDecreasingBy-push}
+use Rattle.rm_plan.specs.{Spans.{lies_in, covers, AreApart, IsAscending, IsFirstOutside}, declared.span.Span.{Span}}
 use Rattle.rm_plan.proofs.Conditions.{or_false, or_first, or_second, within_not_below, within_not_past, within_to}
-use Rattle.rm_plan.specs.declared.span.Span.{Span}
-use Rattle.rm_plan.specs.Spans.{lies_in, covers, AreApart, IsAscending, IsFirstOutside}
 
 -- nothing lies below spans that all start above it
 none_below : (spans : List Span) (g : ℕ) → ((k : ℕ) (d : Span) → k < length spans → g < (get_or spans k d).start) → covers spans g ≡ false

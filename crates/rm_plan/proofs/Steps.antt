@@ -1,19 +1,13 @@
 -- What is true of the entry of a block, step by step and in the end.
 use Rattle.std.proofs.Common.{◌≡◌, ◌≤◌, ◌==◌, ◌||◌, inl, inr, ℕ, List, [], ◌∷◌, Bool, true, false, cond, fold, nat_lt, refl, sym, subst, arith, Contains}
 use Rattle.std.proofs.lemmas.Bool.Decides.{nat_tests}
-use Rattle.rm_base.specs.declared.block.Block.{Block}
-use Rattle.rm_base.specs.declared.block.Row.{Row}
+use Rattle.rm_base.{specs.declared.block.{Block.{Block}, Row.{Row}}, proofs.Members.{in-front, behind, none-in, first-or-rest}}
 use Rattle.rm_evidence.specs.declared.evidence.Evidence.{Evidence}
-use Rattle.rm_base.proofs.Members.{in-front, behind, none-in, first-or-rest}
 use Rattle.rm_piece.specs.declared.piece.Piece.{Piece}
-use Rattle.rm_plan.specs.declared.entry.Entry.{Entry}
-use Rattle.rm_plan.specs.declared.span.Span.{Span}
 use Rattle.rm_plan.specs.Entries.{entry_at_creation, after_version, after_counted_row, after_own_row, after_row, after_piece, after_pieces, looked_on_way, record_counts, after_record, entry_of}
-use Rattle.rm_plan.specs.Ways.{way_of}
-use Rattle.rm_plan.proofs.Artefacts.{IsAmong}
+use Rattle.rm_plan.{specs.{Ways.{way_of}, declared.{entry.Entry.{Entry}, span.Span.{Span}}}, proofs.Artefacts.{IsAmong}}
 use Rattle.rm_plan.proofs.Conditions.{eq_from, eq_to, or_first}
-use Rattle.rm_redo.specs.declared.log_file.LogFile.{LogFile}
-use Rattle.rm_redo.specs.declared.online.LogRecord.{LogRecord}
+use Rattle.rm_redo.specs.declared.{log_file.LogFile.{LogFile}, online.LogRecord.{LogRecord}}
 
 -- a fold whose steps keep what is true
 module _ {S X : Type 0} (step : S → X → S) (P : S → Type 0) where

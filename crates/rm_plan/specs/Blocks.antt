@@ -1,12 +1,8 @@
 -- What a planner answers of some blocks.
 use Rattle.std.specs.Prelude.{ℕ, ◌≡◌, List, [], ◌∷◌, ◌++◌, All}
-use Rattle.rm_base.specs.declared.block.BlockId.{BlockId}
-use Rattle.rm_base.specs.declared.block.Row.{Row}
-use Rattle.rm_history.specs.declared.world.World.{World}
-use Rattle.rm_history.specs.Evidence.{Evidence}
-use Rattle.rm_history.specs.FirstGap.{IsDetermined}
-use Rattle.rm_plan.specs.declared.plan.Gap.{Gap}
-use Rattle.rm_plan.specs.Plan.{NamesGap, Tells}
+use Rattle.rm_base.specs.declared.block.{BlockId.{BlockId}, Row.{Row}}
+use Rattle.rm_history.specs.{Evidence.{Evidence}, FirstGap.{IsDetermined}, declared.world.World.{World}}
+use Rattle.rm_plan.specs.{Plan.{NamesGap, Tells}, declared.plan.Gap.{Gap}}
 
 -- the row is that of the block, as it is told
 pub record IsToldRow (w : World) (e : Evidence) (i s : ℕ) (x : BlockId) (r : Row) : Type 0 where

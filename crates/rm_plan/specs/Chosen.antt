@@ -1,13 +1,8 @@
 -- What a planner answers of some blocks of one datafile.
 use Rattle.std.specs.Prelude.{ℕ, List, map}
-use Rattle.rm_base.specs.declared.block.BlockId.{BlockId}
-use Rattle.rm_base.specs.declared.block.Part.{Part}
-use Rattle.rm_base.specs.declared.block.Row.{Row}
-use Rattle.rm_history.specs.declared.world.World.{World}
-use Rattle.rm_history.specs.Evidence.{Evidence}
-use Rattle.rm_plan.specs.Blocks.{AreToldRows, NamesFirstOf}
-use Rattle.rm_plan.specs.declared.plan.PlanFault.{PlanFault}
-use Rattle.rm_plan.specs.declared.plan.PlanFault.TheVariants as fault
+use Rattle.rm_base.specs.declared.block.{BlockId.{BlockId}, Part.{Part}, Row.{Row}}
+use Rattle.rm_history.specs.{Evidence.{Evidence}, declared.world.World.{World}}
+use Rattle.rm_plan.specs.{Blocks.{AreToldRows, NamesFirstOf}, declared.plan.PlanFault.{PlanFault, TheVariants as fault}}
 
 -- block b of datafile f
 abbrev pub id_of : ℕ → ℕ → BlockId

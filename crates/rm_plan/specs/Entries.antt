@@ -1,15 +1,10 @@
 -- What rows and records tell of a block: artefact by artefact, along the ways of a target.
 use Rattle.std.specs.Prelude.{ℕ, ◌≡◌, ◌<◌, ◌==◌, ◌&&◌, ◌||◌, nat_lt, nat_le, Bool, true, false, List, fold, if◌then◌else◌, length, max, min, slice_index_or}
-use Rattle.rm_base.specs.Content.{zero_block}
-use Rattle.rm_base.specs.declared.block.Block.{Block}
-use Rattle.rm_base.specs.declared.block.Row.{Row}
+use Rattle.rm_base.specs.{Content.{zero_block}, declared.block.{Block.{Block}, Row.{Row}}}
 use Rattle.rm_evidence.specs.declared.evidence.Evidence.{Evidence}
 use Rattle.rm_piece.specs.declared.piece.Piece.{Piece}
-use Rattle.rm_plan.specs.declared.entry.Entry.{Entry}
-use Rattle.rm_plan.specs.declared.span.Span.{Span}
-use Rattle.rm_plan.specs.Ways.{way_of}
-use Rattle.rm_redo.specs.declared.log_file.LogFile.{LogFile}
-use Rattle.rm_redo.specs.declared.online.LogRecord.{LogRecord}
+use Rattle.rm_plan.specs.{Ways.{way_of}, declared.{entry.Entry.{Entry}, span.Span.{Span}}}
+use Rattle.rm_redo.specs.declared.{log_file.LogFile.{LogFile}, online.LogRecord.{LogRecord}}
 
 -- before anything is looked at, of a file that was created at this SCN
 abbrev pub entry_at_creation : ℕ → Entry

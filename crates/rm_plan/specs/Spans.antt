@@ -1,6 +1,5 @@
 -- Sets of SCNs, as lists of spans.
-use Rattle.std.specs.Prelude.{ℕ, ◌≡◌, ◌<◌, ◌≤◌, ◌&&◌, nat_lt, nat_le, Bool, true, false, List, AllPairs}
-use Rattle.std.specs.List.{list_any}
+use Rattle.std.specs.{Prelude.{ℕ, ◌≡◌, ◌<◌, ◌≤◌, ◌&&◌, nat_lt, nat_le, Bool, true, false, List, AllPairs}, List.{list_any}}
 use Rattle.std.specs.List.Sorted.{IsNonDecreasingBy}
 use Rattle.rm_plan.specs.declared.span.Span.{Span}
 

@@ -1,8 +1,7 @@
 -- How far the path of an incarnation agrees with that of a target.
 use Rattle.std.specs.Prelude.{ℕ, ◌≡◌, ◌-◌, ◌<◌, ◌≤◌, ◌==◌, if◌then◌else◌, List, slice_index_or}
 use Rattle.rm_base.specs.Numbers.{last_scn}
-use Rattle.rm_history.specs.declared.tree.Incarnation.{Incarnation}
-use Rattle.rm_history.specs.Tree.{IsThere, owner, reset_of}
+use Rattle.rm_history.specs.{Tree.{IsThere, owner, reset_of}, declared.tree.Incarnation.{Incarnation}}
 use Rattle.rm_plan.specs.declared.span.Span.{Span}
 
 -- The span is the way of j towards (i, s): it begins where j began, and ends where its path and that of

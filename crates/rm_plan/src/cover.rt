@@ -1,17 +1,12 @@
 //! Where the blocks of a datafile were quiet, whatever their rows: in logs of all enabled threads, and where a
 //! level 1 does not list them.
-ghost use Rattle.std.specs.Prelude.{ℕ, ◌≡◌, ◌||◌, All, AllPairs, IfOk, None, Some};
-ghost use Rattle.std.specs.List.{list_any};
-ghost use Rattle.rm_catalog.specs.Rules.{HasDatabase};
-ghost use Rattle.rm_catalog.specs.Switches.{switches};
-ghost use Rattle.rm_catalog.specs.Trees.{nodes};
-ghost use Rattle.rm_history.specs.Agrees.{lists};
-ghost use Rattle.rm_history.specs.Tree.{IsThere};
+ghost use Rattle.std.specs.{Prelude.{ℕ, ◌≡◌, ◌||◌, All, AllPairs, IfOk, None, Some}, List.{list_any}};
+ghost use Rattle.rm_catalog.specs.{Rules.{HasDatabase}, Switches.{switches}, Trees.{nodes}};
+ghost use Rattle.rm_history.specs.{Agrees.{lists}, Tree.{IsThere}};
 ghost use Rattle.rm_evidence.specs.Database.{world_of};
 ghost use Rattle.rm_piece.specs.Valid.{IsBefore};
 ghost use Rattle.rm_plan.specs.Covers.{HaveSortedRows, is_covered, is_unlisted, level1_covers, log_covers, span_of_level1, span_of_log, threads_cover};
-ghost use Rattle.rm_plan.specs.Idle.{is_idle};
-ghost use Rattle.rm_plan.specs.Spans.{AreApart, IsAscending, covers};
+ghost use Rattle.rm_plan.specs.{Idle.{is_idle}, Spans.{AreApart, IsAscending, covers}};
 
 use crate::idle::idle_spans;
 use crate::span::{Span, common_spans, in_order, merged_spans};

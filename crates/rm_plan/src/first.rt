@@ -1,15 +1,9 @@
 //! The first gap of all datafiles.
 ghost use Rattle.std.specs.Prelude.{◌≡◌, IfNone, IfOk, IfSome, Some};
-ghost use Rattle.rm_catalog.specs.Rules.{HasDatabase};
-ghost use Rattle.rm_catalog.specs.Trees.{nodes};
-ghost use Rattle.rm_evidence.specs.Known.{FitsTree, known_of};
-ghost use Rattle.rm_history.specs.Tree.{IsThere};
-ghost use Rattle.rm_history.specs.World.{file_of};
-ghost use Rattle.rm_history.specs.FirstGap.{IsFirstGap, IsRecoverable};
-ghost use Rattle.rm_history.specs.Unknown.{IsUnknown};
-ghost use Rattle.rm_evidence.specs.Database.{world_of};
-ghost use Rattle.rm_plan.specs.FirstGap.{FileDetermined, IsGapOfFile};
-ghost use Rattle.rm_plan.specs.Plan.{DeterminedBelow, IsFileTarget, NamesFirstGap};
+ghost use Rattle.rm_catalog.specs.{Rules.{HasDatabase}, Trees.{nodes}};
+ghost use Rattle.rm_evidence.specs.{Known.{FitsTree, known_of}, Database.{world_of}};
+ghost use Rattle.rm_history.specs.{Tree.{IsThere}, World.{file_of}, FirstGap.{IsFirstGap, IsRecoverable}, Unknown.{IsUnknown}};
+ghost use Rattle.rm_plan.specs.{FirstGap.{FileDetermined, IsGapOfFile}, Plan.{DeterminedBelow, IsFileTarget, NamesFirstGap}};
 
 use crate::plan::{Gap, PlanFault};
 use crate::survey::{survey_file, tell_block};

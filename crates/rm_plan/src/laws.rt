@@ -1,7 +1,6 @@
 //! What the definitions of a planner's answers rest on.
 ghost use Rattle.std.specs.Prelude.{List};
-ghost use Rattle.rm_catalog.specs.declared.record.Record.{Record};
-ghost use Rattle.rm_catalog.specs.Rules.{HasDatabase, IsCatalog};
+ghost use Rattle.rm_catalog.specs.{Rules.{HasDatabase, IsCatalog}, declared.record.Record.{Record}};
 ghost use Rattle.rm_history.specs.Unknown.{IsWorld};
 ghost use Rattle.rm_evidence.specs.Database.{world_of};
 

@@ -1,15 +1,9 @@
 //! What the evidence tells of a datafile until a target, and of each of its blocks.
 ghost use Rattle.std.specs.Prelude.{ℕ, ◌≡◌, ◌<◌, IfOk, IfErr, Some};
-ghost use Rattle.rm_catalog.specs.Rules.{HasDatabase};
-ghost use Rattle.rm_catalog.specs.Trees.{nodes};
-ghost use Rattle.rm_evidence.specs.Known.{FitsTree, known_of};
-ghost use Rattle.rm_history.specs.World.{file_of};
-ghost use Rattle.rm_history.specs.declared.world.World.{World};
-ghost use Rattle.rm_history.specs.FirstGap.{IsTarget};
-ghost use Rattle.rm_evidence.specs.Database.{world_of};
-ghost use Rattle.rm_plan.specs.Covers.{HaveSortedRows};
-ghost use Rattle.rm_plan.specs.Plan.{IsFault, IsFileTarget, Tells};
-ghost use Rattle.rm_plan.specs.Spans.{AreApart, IsAscending};
+ghost use Rattle.rm_catalog.specs.{Rules.{HasDatabase}, Trees.{nodes}};
+ghost use Rattle.rm_evidence.specs.{Known.{FitsTree, known_of}, Database.{world_of}};
+ghost use Rattle.rm_history.specs.{World.{file_of}, FirstGap.{IsTarget}, declared.world.World.{World}};
+ghost use Rattle.rm_plan.specs.{Covers.{HaveSortedRows}, Plan.{IsFault, IsFileTarget, Tells}, Spans.{AreApart, IsAscending}};
 ghost use Rattle.rm_plan.specs.Survey.{IsFirstUncovered, IsSurvey};
 
 use crate::cover::{Cover, block_cover, file_cover};

@@ -1,16 +1,14 @@
 -- What the logs have after a list of changes.
 use Rattle.std.proofs.Common.{◌≡◌, ◌≢◌, ◌∙◌, ◌==◌, ℕ, List, [], ◌∷◌, ◌++◌, inl, inr, Bool, true, false, cond, refl, ap, sym, subst, append_assoc, arith, length, get_or, map, filter, All, AllPairs}
-use Rattle.std.proofs.lemmas.Bool.{cases_eq, eq-eqb, ne_eqb, eqb-true}
-use Rattle.std.proofs.lemmas.List.{get_or-map, length-map, map-append}
+use Rattle.std.proofs.lemmas.{Bool.{cases_eq, eq-eqb, ne_eqb, eqb-true}, List.{get_or-map, length-map, map-append}}
 use Rattle.std.proofs.lemmas.List.Elements.{All-head, All-tail, All-weaker}
 use Rattle.rm_base.specs.declared.block.Change.{Change}
-use Rattle.rm_redo.specs.declared.online.LogRecord.{LogRecord}
-use Rattle.rm_history.specs.Agrees.{ComesBefore}
-use Rattle.rm_redo.specs.declared.log_file.LogFile.{LogFile}
 use Rattle.rm_redo.specs.Logs.{IsBefore, Logs}
 use Rattle.rm_redo.specs.Online.{IsThread, record_of, thread_records, first_of, switched, with_change, with_changes}
-use Rattle.rm_redo.specs.LogFile.{changes_of, is_of_thread, log_file_of}
+use Rattle.rm_redo.specs.{LogFile.{changes_of, is_of_thread, log_file_of}, declared.online.LogRecord.{LogRecord}}
+use Rattle.rm_redo.specs.declared.log_file.LogFile.{LogFile}
 use Rattle.rm_redo.proofs.Logs.{IsAround, around-with_change, around-switched, IsThread-switched, IsThread-with_change, thread_records-switched, thread_records-with_change, thread_records-with_change_other}
+use Rattle.rm_history.specs.Agrees.{ComesBefore}
 
 -- as many threads, of the same incarnation and database
 pub around-with_changes : (logs : Logs) (h : List Change) → IsAround logs (with_changes logs h)

@@ -1,14 +1,8 @@
 -- Online logs that log files tell are valid where these are.
-use Rattle.std.proofs.Common.{◌≡◌, ◌≤◌, ◌∷◌, [], ℕ, List, Option, Some, None, Bool, All, IfSome, arith, length}
-use Rattle.std.specs.List.{zip}
-use Rattle.std.proofs.lemmas.List.{length-map}
-use Rattle.std.proofs.lemmas.List.Elements.{All-cons, All-head, All-nil, All-tail}
-use Rattle.std.proofs.lemmas.Slice.Zip.{length-zip}
-use Rattle.rm_redo.specs.declared.log_file.LogFile.{LogFile}
-use Rattle.rm_redo.specs.LogFormat.{IsLogFile}
-use Rattle.rm_redo.specs.Logs.{IsLog, IsLogs}
-use Rattle.rm_redo.specs.Online.{logs_of, thread_log, thread_logs, told_log}
-use Rattle.rm_redo.proofs.Logs.{lost-log-is_log, where-is_log}
+use Rattle.std.{specs.List.{zip}, proofs.Common.{◌≡◌, ◌≤◌, ◌∷◌, [], ℕ, List, Option, Some, None, Bool, All, IfSome, arith, length}}
+use Rattle.std.proofs.lemmas.{List.{length-map, Elements.{All-cons, All-head, All-nil, All-tail}}, Slice.Zip.{length-zip}}
+use Rattle.rm_redo.specs.{LogFormat.{IsLogFile}, Logs.{IsLog, IsLogs}, Online.{logs_of, thread_log, thread_logs, told_log}}
+use Rattle.rm_redo.{specs.declared.log_file.LogFile.{LogFile}, proofs.Logs.{lost-log-is_log, where-is_log}}
 
 told-is_log : (o : Option LogFile) → IfSome o IsLogFile → IsLog (told_log o)
 told-is_log None valid = lost-log-is_log

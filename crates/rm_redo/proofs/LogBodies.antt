@@ -1,14 +1,11 @@
 -- The bytes before the digest tell the log.
-use Rattle.std.proofs.Common.{◌≡◌, ◌∙◌, ◌+◌, ◌*◌, ◌^◌, ◌<◌, ℕ, List, ◌∷◌, ◌++◌, length, All, refl, ap, sym, arith, append_assoc}
 use Rattle.std.specs.List.{flat_map}
+use Rattle.std.proofs.Common.{◌≡◌, ◌∙◌, ◌+◌, ◌*◌, ◌^◌, ◌<◌, ℕ, List, ◌∷◌, ◌++◌, length, All, refl, ap, sym, arith, append_assoc}
 use Rattle.std.proofs.lemmas.List.{length-append}
-use Rattle.rm_base.specs.Number.{four, eight}
-use Rattle.rm_base.proofs.Items.{items_same, length-items}
+use Rattle.rm_base.{specs.Number.{four, eight}, proofs.Items.{items_same, length-items}}
 use Rattle.rm_base.proofs.Wide.{length-four, length-eight, fronts_same, four_same, eight_same}
-use Rattle.rm_redo.specs.declared.log_file.LogFile.{LogFile}
-use Rattle.rm_redo.specs.declared.online.LogRecord.{LogRecord}
-use Rattle.rm_redo.specs.LogFits.{RecordFits, HeadFits, Fits}
-use Rattle.rm_redo.specs.LogFormat.{magic, record_bytes, head_bytes, body_of}
+use Rattle.rm_redo.specs.{LogFits.{RecordFits, HeadFits, Fits}, LogFormat.{magic, record_bytes, head_bytes, body_of}}
+use Rattle.rm_redo.specs.declared.{log_file.LogFile.{LogFile}, online.LogRecord.{LogRecord}}
 
 -- ---- records
 

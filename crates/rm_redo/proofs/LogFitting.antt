@@ -1,13 +1,8 @@
 -- What is valid fits the types of its fields, and a spelling tells the log.
 use Rattle.std.proofs.Common.{◌≡◌, ◌∙◌, ◌⊎◌, inl, inr, ◌<◌, ◌≤◌, ℕ, arith}
-use Rattle.rm_base.specs.Numbers.{last_scn}
-use Rattle.rm_base.proofs.Sealing.{sealed_same}
-use Rattle.rm_redo.specs.declared.log_file.LogFile.{LogFile}
-use Rattle.rm_redo.specs.declared.online.LogRecord.{LogRecord}
-use Rattle.rm_redo.specs.LogFits.{Fits, RecordFits}
-use Rattle.rm_redo.specs.LogFormat.{spelling, IsLogFile, IsLogRecord}
-use Rattle.rm_redo.specs.Logs.{IsBefore}
-use Rattle.rm_redo.proofs.LogBodies.{body_same}
+use Rattle.rm_base.{specs.Numbers.{last_scn}, proofs.Sealing.{sealed_same}}
+use Rattle.rm_redo.specs.{LogFits.{Fits, RecordFits}, LogFormat.{spelling, IsLogFile, IsLogRecord}, Logs.{IsBefore}}
+use Rattle.rm_redo.{specs.declared.{log_file.LogFile.{LogFile}, online.LogRecord.{LogRecord}}, proofs.LogBodies.{body_same}}
 
 record_fits : (r : LogRecord) (first next : ℕ) → next ≤ last_scn → IsLogRecord first next r → RecordFits r
 record_fits r first next last is = record {

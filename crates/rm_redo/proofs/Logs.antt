@@ -1,17 +1,13 @@
 -- What a change more, a switch and a loss make of the logs, and what they leave as it was.
-use Rattle.std.proofs.Common.{◌≡◌, ◌<◌, ◌≤◌, ◌+◌, ◌-◌, ◌∙◌, ◌≢◌, ◌==◌, inl, inr, ℕ, zero, suc, List, [], ◌∷◌, ◌++◌, Option, Some, None, Bool, true, false, cond, refl, ap, sym, subst, arith, length, map, get_or, All, slice_get, slice_set}
 use Rattle.std.specs.Option.{option_map_or}
-use Rattle.std.proofs.lemmas.Bool.{cases_eq, eq-eqb, ne_eqb}
-use Rattle.std.proofs.lemmas.List.{length-map, length-set}
-use Rattle.std.proofs.lemmas.List.Elements.{All-get_or, All-map, All-push, All-set}
-use Rattle.std.proofs.lemmas.List.Quantifiers.{all_pairs_push}
-use Rattle.std.proofs.lemmas.List.{length-append}
+use Rattle.std.proofs.Common.{◌≡◌, ◌<◌, ◌≤◌, ◌+◌, ◌-◌, ◌∙◌, ◌≢◌, ◌==◌, inl, inr, ℕ, zero, suc, List, [], ◌∷◌, ◌++◌, Option, Some, None, Bool, true, false, cond, refl, ap, sym, subst, arith, length, map, get_or, All, slice_get, slice_set}
+use Rattle.std.proofs.lemmas.{Bool.{cases_eq, eq-eqb, ne_eqb}, List.{length-map, length-set, length-append}}
+use Rattle.std.proofs.lemmas.List.{Elements.{All-get_or, All-map, All-push, All-set}, Quantifiers.{all_pairs_push}}
 use Rattle.std.proofs.lemmas.Option.{get_or_from_slice_get, slice_get_cases, slice_get_read, slice_get_within}
 use Rattle.rm_base.specs.declared.block.Change.{Change}
-use Rattle.rm_redo.specs.declared.online.LogRecord.{LogRecord}
-use Rattle.rm_redo.specs.declared.online.ThreadLog.{ThreadLog}
 use Rattle.rm_redo.specs.Logs.{Logs, IsBefore, IsLog, IsLogs}
 use Rattle.rm_redo.specs.Online.{IsThread, IsLost, has_log, record_of, thread_records, first_of, sequence_of, with_log, with_record, with_change, begun_anew, switched, with_loss, begun_logs, empty_log, fresh_log, lost_log, lost_logs, no_log, log_where}
+use Rattle.rm_redo.specs.declared.online.{LogRecord.{LogRecord}, ThreadLog.{ThreadLog}}
 
 pub empty-is_log : (first sequence : ℕ) → 0 < first → 0 < sequence → IsLog (empty_log first sequence)
 empty-is_log first sequence begun numbered = record {

@@ -2,10 +2,8 @@
 use Rattle.std.specs.Prelude.{ℕ, ◌==◌, Bool, List, map}
 use Rattle.rm_base.specs.declared.block.Change.{Change}
 use Rattle.rm_history.specs.Artefacts.{Log}
-use Rattle.rm_redo.specs.declared.online.LogRecord.{LogRecord}
+use Rattle.rm_redo.specs.{Logs.{Logs}, Online.{first_of, thread_records, sequence_of}, declared.online.LogRecord.{LogRecord}}
 use Rattle.rm_redo.specs.declared.log_file.LogFile.{LogFile}
-use Rattle.rm_redo.specs.Logs.{Logs}
-use Rattle.rm_redo.specs.Online.{first_of, thread_records, sequence_of}
 
 -- the log of a thread, which tells up to, and without, `next`
 abbrev pub log_file_of : Logs → ℕ → ℕ → LogFile

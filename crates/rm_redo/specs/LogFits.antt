@@ -1,7 +1,6 @@
 -- What the types of its fields say of a log.
 use Rattle.std.specs.Prelude.{◌≡◌, ◌<◌, ◌^◌, length, All}
-use Rattle.rm_redo.specs.declared.log_file.LogFile.{LogFile}
-use Rattle.rm_redo.specs.declared.online.LogRecord.{LogRecord}
+use Rattle.rm_redo.specs.declared.{log_file.LogFile.{LogFile}, online.LogRecord.{LogRecord}}
 
 pub record RecordFits (r : LogRecord) : Type 0 where
   pub scn : r.scn < 2 ^ 64

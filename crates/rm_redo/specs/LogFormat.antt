@@ -1,12 +1,7 @@
 -- Which logs are valid, and the one spelling of each.
-use Rattle.std.specs.Prelude.{ℕ, ◌≡◌, ◌<◌, ◌≤◌, ◌^◌, List, [], ◌∷◌, ◌++◌, length, All, codes}
-use Rattle.std.specs.List.{flat_map, AllPairs}
-use Rattle.rm_base.specs.Number.{four, eight}
-use Rattle.rm_base.specs.Numbers.{last_scn}
-use Rattle.rm_base.specs.Sealed.{sealed}
-use Rattle.rm_redo.specs.declared.log_file.LogFile.{LogFile}
-use Rattle.rm_redo.specs.declared.online.LogRecord.{LogRecord}
-use Rattle.rm_redo.specs.Logs.{IsBefore}
+use Rattle.std.specs.{Prelude.{ℕ, ◌≡◌, ◌<◌, ◌≤◌, ◌^◌, List, [], ◌∷◌, ◌++◌, length, All, codes}, List.{flat_map, AllPairs}}
+use Rattle.rm_base.specs.{Number.{four, eight}, Numbers.{last_scn}, Sealed.{sealed}}
+use Rattle.rm_redo.specs.{Logs.{IsBefore}, declared.{log_file.LogFile.{LogFile}, online.LogRecord.{LogRecord}}}
 
 -- the SCN lies from `first` up to, and without, `next`; the datafile and block are of the range, and the content has 64 bytes
 pub record IsLogRecord (first next : ℕ) (r : LogRecord) : Type 0 where

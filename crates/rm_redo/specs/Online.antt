@@ -1,12 +1,8 @@
 -- What the calls of the online logs do.
 use Rattle.std.specs.Prelude.{ℕ, Bool, ◌+◌, ◌-◌, ◌==◌, if◌then◌else◌, ◌<◌, ◌≤◌, ◌≡◌, ◌++◌, ◌||◌, not, nat_le, Option, Some, None, List, [], ◌∷◌, length, map, true, false, slice_get, slice_set}
-use Rattle.std.specs.List.{list_all, zip}
-use Rattle.std.specs.Option.{option_map_or}
+use Rattle.std.specs.{List.{list_all, zip}, Option.{option_map_or}}
 use Rattle.rm_base.specs.declared.block.Change.{Change}
-use Rattle.rm_redo.specs.declared.online.LogRecord.{LogRecord}
-use Rattle.rm_redo.specs.declared.log_file.LogFile.{LogFile}
-use Rattle.rm_redo.specs.declared.online.ThreadLog.{ThreadLog}
-use Rattle.rm_redo.specs.Logs.{Logs}
+use Rattle.rm_redo.specs.{Logs.{Logs}, declared.{online.{LogRecord.{LogRecord}, ThreadLog.{ThreadLog}}, log_file.LogFile.{LogFile}}}
 
 -- the thread has an online log, lost or not
 abbrev pub has_log : Logs → ℕ → Bool

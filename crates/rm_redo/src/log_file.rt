@@ -1,8 +1,7 @@
 //! A log that was archived.
 ghost use Rattle.std.specs.Prelude.{ℕ, ◌≡◌, ◌≢◌, ◌++◌, List, [], All, filter};
 ghost use Rattle.rm_base.specs.declared.block.Change.{Change};
-ghost use Rattle.rm_redo.specs.Logs.{Logs};
-ghost use Rattle.rm_redo.specs.LogFile.{changes_of, is_of_thread, log_file_of};
+ghost use Rattle.rm_redo.specs.{Logs.{Logs}, LogFile.{changes_of, is_of_thread, log_file_of}};
 ghost use Rattle.rm_redo.specs.Online.{IsThread, first_of, switched, thread_records, with_changes};
 
 use crate::online::LogRecord;

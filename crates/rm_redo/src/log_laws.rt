@@ -1,9 +1,7 @@
 //! What the definitions of a log as bytes mean.
 ghost use Rattle.std.specs.Prelude.{◌≡◌, ◌+◌, ◌*◌, length, AllPairs};
 ghost use Rattle.rm_history.specs.Agrees.{ComesBefore};
-ghost use Rattle.rm_redo.specs.declared.log_file.LogFile.{LogFile};
-ghost use Rattle.rm_redo.specs.LogFile.{changes_of};
-ghost use Rattle.rm_redo.specs.LogFormat.{spelling, IsLogFile};
+ghost use Rattle.rm_redo.specs.{LogFile.{changes_of}, LogFormat.{spelling, IsLogFile}, declared.log_file.LogFile.{LogFile}};
 
 /// A valid log has one spelling, and bytes spell one valid log at most.
 pub fn bytes_spell_one_log()

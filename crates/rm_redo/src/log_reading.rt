@@ -1,10 +1,9 @@
 //! A log from its bytes.
-ghost use Rattle.std.specs.Prelude.{◌≡◌, ◌≢◌, ◌+◌, ◌*◌, ◌<◌, ◌≤◌, ◌^◌, ◌++◌, ℕ, List, length, IfOk, IfSome, IfNone, All};
-ghost use Rattle.std.specs.List.{flat_map};
+ghost use Rattle.std.specs.{Prelude.{◌≡◌, ◌≢◌, ◌+◌, ◌*◌, ◌<◌, ◌≤◌, ◌^◌, ◌++◌, ℕ, List, length, IfOk, IfSome, IfNone, All}, List.{flat_map}};
 ghost use Rattle.rm_base.specs.Formats.{Reads};
-ghost use Rattle.rm_redo.specs.declared.log_file.LogFile.{LogFile};
 ghost use Rattle.rm_redo.specs.LogFits.{RecordFits, HeadFits, Fits};
 ghost use Rattle.rm_redo.specs.LogFormat.{magic, head_bytes, record_bytes, body_of, spelling, IsLogFile};
+ghost use Rattle.rm_redo.specs.declared.log_file.LogFile.{LogFile};
 
 use crate::log_file::LogFile;
 use crate::log_valid::is_valid_log;

@@ -1,9 +1,7 @@
 //! The rules of a valid log.
-ghost use Rattle.std.specs.Prelude.{◌↔◌, ◌≤◌, IsTrue, All};
-ghost use Rattle.std.specs.List.{AllPairs};
+ghost use Rattle.std.specs.{Prelude.{◌↔◌, ◌≤◌, IsTrue, All}, List.{AllPairs}};
 ghost use Rattle.rm_base.specs.Numbers.{last_scn};
-ghost use Rattle.rm_redo.specs.Logs.{IsBefore};
-ghost use Rattle.rm_redo.specs.LogFormat.{IsLogFile, IsLogRecord};
+ghost use Rattle.rm_redo.specs.{Logs.{IsBefore}, LogFormat.{IsLogFile, IsLogRecord}};
 
 use crate::log_file::LogFile;
 use crate::online::{LogRecord, MOST_RECORDS};

@@ -1,6 +1,5 @@
 //! A log as bytes.
-ghost use Rattle.std.specs.Prelude.{◌≡◌, ◌<◌, ◌^◌, ◌++◌, length, OnOk, IfOk};
-ghost use Rattle.std.specs.List.{flat_map};
+ghost use Rattle.std.specs.{Prelude.{◌≡◌, ◌<◌, ◌^◌, ◌++◌, length, OnOk, IfOk}, List.{flat_map}};
 ghost use Rattle.sha2.specs.Sha256.{sha256};
 ghost use Rattle.rm_redo.specs.LogFormat.{head_bytes, record_bytes, spelling, IsLogFile};
 

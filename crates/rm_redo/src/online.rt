@@ -1,9 +1,7 @@
 //! The online logs, one for each redo thread.
 ghost use Rattle.std.specs.Prelude.{ℕ, ◌≡◌, ◌<◌, ◌≤◌, ◌||◌, ◌↔◌, All, OnOk, OnErr, IfOk, IfSome, IsTrue, IsErrOf, length, map, not};
 ghost use Rattle.rm_base.specs.Numbers.{last_scn};
-ghost use Rattle.rm_redo.specs.Logs.{IsLog, IsLogs};
-ghost use Rattle.rm_redo.specs.LogFile.{log_file_of};
-ghost use Rattle.rm_redo.specs.LogFormat.{IsLogFile};
+ghost use Rattle.rm_redo.specs.{Logs.{IsLog, IsLogs}, LogFile.{log_file_of}, LogFormat.{IsLogFile}};
 ghost use Rattle.rm_redo.specs.Online.{IsThread, IsLost, are_lost, begun_logs, counted_as, empty_log, fresh_log, fresh_logs, log_where, logs_of, lost_log, no_log, thread_log, thread_logs, with_change, with_disabled, with_enabled, with_log, with_loss, switched, thread_records, first_of, sequence_of};
 
 use crate::log_file::LogFile;

@@ -1,31 +1,17 @@
 -- Mends beside lists of writes.
 use mathlib.Core.List.{map-append}
+use Rattle.std.specs.{Global.{Global}, Option.{option_map}, Result.{result_ok}}
 use Rattle.std.proofs.Common.{◌≡◌, ◌∙◌, ◌+◌, ◌-◌, ◌/◌, ◌<◌, ◌≤◌, ◌==◌, ℕ, zero, suc, false, Option, Some, Result, Ok, Err, IfOk, IfSome, List, [], ◌++◌, All, Vec, filter, length, map, refl, ap, subst, sym, append-nil, append_assoc, arith, length-append}
-use Rattle.std.specs.Global.{Global}
-use Rattle.std.specs.Option.{option_map}
-use Rattle.std.specs.Result.{result_ok}
 use Rattle.atomic_table.specs.Seated.{TableId}
-use Rattle.rm_live.specs.declared.history.Call.{Call}
-use Rattle.rm_live.specs.declared.history.Event.{Event}
+use Rattle.rm_live.specs.{History.{fold_of}, Passes.{IsOnly, Standing}, Ruled.{total}, declared.history.{Call.{Call}, Event.{Event}}}
 use Rattle.rm_live.specs.declared.history.LiveFault.{LiveFault}
-use Rattle.rm_live.specs.History.{fold_of}
-use Rattle.rm_live.specs.Passes.{IsOnly, Standing}
-use Rattle.rm_live.specs.Ruled.{total}
-use Rattle.rm_channel.specs.declared.jobs.WriteJob.{WriteJob}
-use Rattle.rm_channel.specs.Jobs.{Deed, AreAsLong, lists, writes_of, wrote_of}
-use Rattle.rm_channel.specs.Made.{AreThese, Did, call, deed, is_by}
-use Rattle.rm_channel.specs.Room.{AreThreads, CanWrite}
-use Rattle.rm_channel.specs.Runs.{HasWritten}
-use Rattle.rm_channel.proofs.Copied.{as_answers, long-answers, ran-alone}
-use Rattle.rm_channel.proofs.Halves.{calls-apart}
+use Rattle.rm_channel.specs.{Jobs.{Deed, AreAsLong, lists, writes_of, wrote_of}, Made.{AreThese, Did, call, deed, is_by}}
+use Rattle.rm_channel.specs.{Room.{AreThreads, CanWrite}, Runs.{HasWritten}, declared.jobs.WriteJob.{WriteJob}}
+use Rattle.rm_channel.proofs.{Copied.{as_answers, long-answers, ran-alone}, Halves.{calls-apart}}
 use Rattle.rm_channel.proofs.Runs.{AreHalves, SameCalls, both_told, ran-as, ran-both, ran-worked, these-self}
-use Rattle.rm_channel.proofs.Split.{threads-back, threads-front}
-use Rattle.rm_channel.proofs.Steps.{worked-all}
-use Rattle.rm_channel.proofs.Writes.{writes_of-append, wrote_of-append}
-use Rattle.rm_repair.specs.declared.jobs.MendJob.{MendJob}
-use Rattle.rm_repair.specs.Mended.{CanGo, HasBlock, HasMended, HasMendedBeside, mended, mends, told_of}
-use Rattle.rm_repair.proofs.Mends.{calls-mended, no-writes, none-by}
-use Rattle.rm_repair.proofs.Rows.{jobs-there, rows-behind}
+use Rattle.rm_channel.proofs.{Split.{threads-back, threads-front}, Steps.{worked-all}, Writes.{writes_of-append, wrote_of-append}}
+use Rattle.rm_repair.specs.{Mended.{CanGo, HasBlock, HasMended, HasMendedBeside, mended, mends, told_of}, declared.jobs.MendJob.{MendJob}}
+use Rattle.rm_repair.proofs.{Mends.{calls-mended, no-writes, none-by}, Rows.{jobs-there, rows-behind}}
 
 abbrev Lists : Type 0
 Lists = Vec (Vec (Result ℕ LiveFault) Global) Global

@@ -2,21 +2,11 @@
 use Rattle.std.proofs.Common.{◌≡◌, ◌∙◌, ◌+◌, ◌<◌, ℕ, Bool, true, Option, Some, None, IsSome, is_some, List, [], ◌∷◌, ◌++◌, filter, get_or, length, map, take, refl, ap, subst, sym, arith}
 use Rattle.std.proofs.lemmas.List.{take_more}
 use Rattle.rm_base.specs.declared.block.Row.{Row}
-use Rattle.rm_live.specs.declared.history.Answer.TheVariants.{Mended}
-use Rattle.rm_live.specs.declared.history.Call.{Call}
-use Rattle.rm_live.specs.declared.history.Call.TheVariants.{Mend}
-use Rattle.rm_live.specs.declared.history.Event.{Event}
-use Rattle.rm_live.specs.History.{IsLegal}
-use Rattle.rm_live.specs.Parts.{Parts, row_at}
-use Rattle.rm_live.specs.Passes.{Adds, IsLater, Standing}
-use Rattle.rm_live.specs.Ruled.{Below}
-use Rattle.rm_channel.specs.Jobs.{Deed}
-use Rattle.rm_channel.specs.Made.{Did, call, is_by}
-use Rattle.rm_channel.proofs.Counts.{NoWrites}
-use Rattle.rm_channel.proofs.Steps.{did-one, did-then, legal-behind}
+use Rattle.rm_live.specs.{History.{IsLegal}, Parts.{Parts, row_at}, Passes.{Adds, IsLater, Standing}, Ruled.{Below}}
+use Rattle.rm_live.specs.declared.history.{Answer.TheVariants.{Mended}, Call.{Call, TheVariants.{Mend}}, Event.{Event}}
+use Rattle.rm_channel.{specs.{Jobs.{Deed}, Made.{Did, call, is_by}}, proofs.{Counts.{NoWrites}, Steps.{did-one, did-then, legal-behind}}}
 use Rattle.rm_channel.proofs.There.{there-fold}
-use Rattle.rm_repair.specs.declared.jobs.MendJob.{MendJob}
-use Rattle.rm_repair.specs.Mended.{HasBlock, mended, mends}
+use Rattle.rm_repair.specs.{Mended.{HasBlock, mended, mends}, declared.jobs.MendJob.{MendJob}}
 
 mended-append : (xs ys : List MendJob) → mended (xs ++ ys) ≡ mended xs ++ mended ys
 mended-append [] ys = refl

@@ -1,31 +1,17 @@
 -- The rows behind mends and writes.
+use Rattle.std.specs.{List.{list_any}, Option.{option_map_or}, Str.{bytes_eq}}
 use Rattle.std.proofs.Common.{◌≡◌, ◌≢◌, ◌∙◌, ◌⊎◌, ◌==◌, ◌&&◌, ◌||◌, ◌+◌, ◌≤◌, inl, inr, ℕ, zero, suc, Bool, true, false, Option, Some, None, Ok, Err, IsSome, is_some, List, [], ◌∷◌, ◌++◌, All, Contains, cond, find, map, slice_get, slice_set, refl, ap, subst, sym, arith}
-use Rattle.std.specs.List.{list_any}
-use Rattle.std.specs.Option.{option_map_or}
-use Rattle.std.specs.Str.{bytes_eq}
-use Rattle.std.proofs.lemmas.Bool.{and_from, and_parts, cases_Bool, eq-eqb, eqb-true, or_parts}
-use Rattle.std.proofs.lemmas.List.Elements.{All-contains, All-weaker}
+use Rattle.std.proofs.lemmas.{Bool.{and_from, and_parts, cases_Bool, eq-eqb, eqb-true, or_parts}, List.Elements.{All-contains, All-weaker}}
 use Rattle.std.proofs.lemmas.Slice.Eq.{bytes_eq-Decides}
-use Rattle.rm_base.specs.declared.block.Row.{Row}
-use Rattle.rm_base.proofs.Members.{behind, in-front}
+use Rattle.rm_base.{specs.declared.block.Row.{Row}, proofs.Members.{behind, in-front}}
 use Rattle.rm_blocks.specs.File.{File, put}
-use Rattle.rm_live.specs.declared.history.Answer.{Answer}
-use Rattle.rm_live.specs.declared.history.Answer.TheVariants.{Found, Mended, Wrote}
-use Rattle.rm_live.specs.declared.history.Call.{Call}
-use Rattle.rm_live.specs.declared.history.Call.TheVariants.{Mend, Read, Write}
-use Rattle.rm_live.specs.declared.history.Event.{Event}
-use Rattle.rm_live.specs.History.{IsLegal, IsRight, after, fold_of}
-use Rattle.rm_live.specs.Parts.{Parts, row_at, with_put}
-use Rattle.rm_live.specs.Ruled.{one_if, total}
-use Rattle.rm_channel.specs.declared.jobs.WriteJob.{WriteJob}
-use Rattle.rm_channel.specs.Jobs.{Deed, writes, writes_of}
-use Rattle.rm_channel.specs.Made.{AreBegun, deed}
-use Rattle.rm_channel.proofs.Mine.{total-append}
-use Rattle.rm_channel.proofs.Rooms.{off-by}
-use Rattle.rm_channel.proofs.Steps.{fold-append, legal-behind}
-use Rattle.rm_channel.proofs.There.{there-after, there-fold}
-use Rattle.rm_repair.specs.declared.jobs.MendJob.{MendJob}
+use Rattle.rm_live.specs.{History.{IsLegal, IsRight, after, fold_of}, Parts.{Parts, row_at, with_put}, Ruled.{one_if, total}}
+use Rattle.rm_live.specs.declared.history.{Answer.{Answer, TheVariants.{Found, Mended, Wrote}}, Call.{Call}}
+use Rattle.rm_live.specs.declared.history.{Call.TheVariants.{Mend, Read, Write}, Event.{Event}}
+use Rattle.rm_channel.specs.{Jobs.{Deed, writes, writes_of}, Made.{AreBegun, deed}, declared.jobs.WriteJob.{WriteJob}}
+use Rattle.rm_channel.proofs.{Mine.{total-append}, Rooms.{off-by}, Steps.{fold-append, legal-behind}, There.{there-after, there-fold}}
 use Rattle.rm_repair.specs.Mended.{HasBlock, RowsAreBehind, is_mend_of, is_mended, is_named, is_touched, is_write_of, mends}
+use Rattle.rm_repair.specs.declared.jobs.MendJob.{MendJob}
 
 -- One row
 

@@ -2,20 +2,11 @@
 use mathlib.Core.List.{map-append}
 use Rattle.std.proofs.Common.{◌≡◌, ◌∙◌, ◌==◌, ◌+◌, ◌≤◌, ℕ, suc, Bool, true, false, cond, List, [], ◌∷◌, ◌++◌, All, length, map, slice_index_or, take, refl, ap, subst, sym, append_assoc, arith, eqb-true}
 use Rattle.std.proofs.lemmas.List.Elements.{All-append, All-cons, All-head, All-map, All-nil, All-tail}
-use Rattle.rm_base.specs.declared.block.BlockId.{BlockId}
-use Rattle.rm_base.specs.declared.block.Part.{Part}
-use Rattle.rm_base.specs.declared.block.Row.{Row}
-use Rattle.rm_history.specs.declared.world.World.{World}
-use Rattle.rm_history.specs.Evidence.{Evidence}
-use Rattle.rm_history.specs.FirstGap.{IsDetermined, IsTarget}
-use Rattle.rm_plan.specs.Blocks.{AreToldRows}
-use Rattle.rm_plan.specs.Chosen.{IsFaultOf, id_of, row_of}
-use Rattle.rm_plan.specs.Plan.{IsFileTarget}
-use Rattle.rm_plan.specs.declared.plan.PlanFault.{PlanFault}
-use Rattle.rm_plan.specs.declared.plan.PlanFault.TheVariants as fault
-use Rattle.rm_plan.proofs.Chosen.{told-append, told-determined}
-use Rattle.rm_repair.specs.declared.jobs.MendJob.{MendJob}
-use Rattle.rm_repair.specs.Jobs.{AreMendJobs, job_of, run_length}
+use Rattle.rm_base.specs.declared.block.{BlockId.{BlockId}, Part.{Part}, Row.{Row}}
+use Rattle.rm_history.specs.{Evidence.{Evidence}, FirstGap.{IsDetermined, IsTarget}, declared.world.World.{World}}
+use Rattle.rm_plan.specs.{Blocks.{AreToldRows}, Chosen.{IsFaultOf, id_of, row_of}, Plan.{IsFileTarget}, declared.plan.PlanFault.{PlanFault}}
+use Rattle.rm_plan.{specs.declared.plan.PlanFault.TheVariants as fault, proofs.Chosen.{told-append, told-determined}}
+use Rattle.rm_repair.specs.{Jobs.{AreMendJobs, job_of, run_length}, declared.jobs.MendJob.{MendJob}}
 
 -- the blocks of a run are of the datafile
 run-step : (f : ℕ) (x : BlockId) (xs : List BlockId) (b : Bool) → (x.file == f) ≡ b → All (λ y. y.file ≡ f) (take (run_length f xs) xs) → All (λ y. y.file ≡ f) (take (cond b (1 + run_length f xs) 0) (x ∷ xs))

@@ -1,12 +1,8 @@
 -- The rows that mend blocks.
-use Rattle.std.specs.Prelude.{◌≡◌, ◌==◌, ℕ, List, map}
-use Rattle.std.specs.List.{prefix_len}
-use Rattle.rm_base.specs.declared.block.BlockId.{BlockId}
-use Rattle.rm_base.specs.declared.block.Part.{Part}
-use Rattle.rm_history.specs.declared.world.World.{World}
-use Rattle.rm_history.specs.Evidence.{Evidence}
-use Rattle.rm_plan.specs.Blocks.{AreToldRows}
-use Rattle.rm_plan.specs.Chosen.{row_of}
+use Rattle.std.specs.{Prelude.{◌≡◌, ◌==◌, ℕ, List, map}, List.{prefix_len}}
+use Rattle.rm_base.specs.declared.block.{BlockId.{BlockId}, Part.{Part}}
+use Rattle.rm_history.specs.{Evidence.{Evidence}, declared.world.World.{World}}
+use Rattle.rm_plan.specs.{Blocks.{AreToldRows}, Chosen.{row_of}}
 use Rattle.rm_repair.specs.declared.jobs.MendJob.{MendJob}
 
 -- how many of the first blocks are of datafile f

@@ -1,25 +1,14 @@
 -- Mends of blocks, while others write.
 use Rattle.std.specs.Prelude.{◌≡◌, ◌≤◌, ◌<◌, ◌+◌, ◌==◌, ◌&&◌, ◌||◌, ℕ, Bool, Option, Some, Result, Ok, IfOk, IsSome, List, [], ◌∷◌, ◌++◌, All, Contains, Vec, length, map, true, false}
-use Rattle.std.specs.Global.{Global}
-use Rattle.std.specs.List.{list_any}
-use Rattle.std.specs.Option.{option_map}
-use Rattle.std.specs.Result.{result_ok}
+use Rattle.std.specs.{Global.{Global}, List.{list_any}, Option.{option_map}, Result.{result_ok}}
 use Rattle.atomic_table.specs.Seated.{TableId}
 use Rattle.rm_base.specs.declared.block.Row.{Row}
 use Rattle.rm_blocks.specs.File.{File}
-use Rattle.rm_live.specs.declared.history.Answer.TheVariants.{Mended}
-use Rattle.rm_live.specs.declared.history.Call.{Call}
-use Rattle.rm_live.specs.declared.history.Call.TheVariants.{Mend, Read, Write}
-use Rattle.rm_live.specs.declared.history.Event.{Event}
+use Rattle.rm_live.specs.{History.{IsLegal, fold_of}, Parts.{Parts, row_at}, Passes.{Standing}}
+use Rattle.rm_live.specs.declared.history.{Answer.TheVariants.{Mended}, Call.{Call, TheVariants.{Mend, Read, Write}}, Event.{Event}}
 use Rattle.rm_live.specs.declared.history.LiveFault.{LiveFault}
-use Rattle.rm_live.specs.History.{IsLegal, fold_of}
-use Rattle.rm_live.specs.Parts.{Parts, row_at}
-use Rattle.rm_live.specs.Passes.{Standing}
-use Rattle.rm_channel.specs.declared.jobs.WriteJob.{WriteJob}
-use Rattle.rm_channel.specs.Jobs.{Deed, AreAsLong, lists, writes_of, wrote_of}
-use Rattle.rm_channel.specs.Made.{AreBegun, AreThese, Ran, deed}
-use Rattle.rm_channel.specs.Room.{AreThreads}
-use Rattle.rm_channel.specs.Runs.{is_refused}
+use Rattle.rm_channel.specs.{Jobs.{Deed, AreAsLong, lists, writes_of, wrote_of}, Made.{AreBegun, AreThese, Ran, deed}, Room.{AreThreads}}
+use Rattle.rm_channel.specs.{Runs.{is_refused}, declared.jobs.WriteJob.{WriteJob}}
 use Rattle.rm_repair.specs.declared.jobs.MendJob.{MendJob}
 
 -- a mend by each job

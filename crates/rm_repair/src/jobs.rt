@@ -1,13 +1,9 @@
 //! The rows that mend blocks, as the evidence tells them.
 ghost use Rattle.std.specs.Prelude.{◌≡◌, ◌++◌, All, IfErr, IfOk, List, map};
-ghost use Rattle.rm_catalog.specs.Rules.{HasDatabase};
-ghost use Rattle.rm_catalog.specs.Trees.{nodes};
-ghost use Rattle.rm_evidence.specs.Database.{world_of};
-ghost use Rattle.rm_evidence.specs.Known.{FitsTree, known_of};
+ghost use Rattle.rm_catalog.specs.{Rules.{HasDatabase}, Trees.{nodes}};
+ghost use Rattle.rm_evidence.specs.{Database.{world_of}, Known.{FitsTree, known_of}};
 ghost use Rattle.rm_history.specs.FirstGap.{IsTarget};
-ghost use Rattle.rm_plan.specs.Blocks.{AreToldRows};
-ghost use Rattle.rm_plan.specs.Chosen.{IsFaultOf, row_of};
-ghost use Rattle.rm_plan.specs.Plan.{IsFileTarget};
+ghost use Rattle.rm_plan.specs.{Blocks.{AreToldRows}, Chosen.{IsFaultOf, row_of}, Plan.{IsFileTarget}};
 ghost use Rattle.rm_repair.specs.Jobs.{AreMendJobs, job_of, run_length};
 
 use rm_base::{BlockId, BlockNo, FileNo, IncNo, NoMemory, Part, Row, Scn};

@@ -1,11 +1,7 @@
 //! Mends of blocks by one thread, beside writes by others.
 ghost use Rattle.std.specs.Prelude.{◌≡◌, ◌+◌, ◌<◌, ◌≤◌, ◌++◌, Ok, All, IfOk, length, map};
-ghost use Rattle.rm_live.specs.History.{fold_of};
-ghost use Rattle.rm_live.specs.Passes.{IsLater, IsOnly};
-ghost use Rattle.rm_channel.specs.Jobs.{lists};
-ghost use Rattle.rm_channel.specs.Made.{Did};
-ghost use Rattle.rm_channel.specs.Room.{AreThreads, CanWrite};
-ghost use Rattle.rm_channel.specs.Runs.{HasWritten};
+ghost use Rattle.rm_live.specs.{History.{fold_of}, Passes.{IsLater, IsOnly}};
+ghost use Rattle.rm_channel.specs.{Jobs.{lists}, Made.{Did}, Room.{AreThreads, CanWrite}, Runs.{HasWritten}};
 ghost use Rattle.rm_repair.specs.Mended.{CanGo, HasBlock, HasMended, HasMendedBeside, IsOlder, mended};
 
 use crate::jobs::MendJob;

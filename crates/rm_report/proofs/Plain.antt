@@ -1,12 +1,9 @@
 -- Replies whose lines are no refusals, and those that are one.
-use Rattle.std.proofs.Common.{◌≡◌, ◌++◌, List, [], All, get_or, sym, subst}
-use Rattle.std.specs.Prelude.{MatchBool, Bool, true, false}
+use Rattle.std.{specs.Prelude.{MatchBool, Bool, true, false}, proofs.Common.{◌≡◌, ◌++◌, List, [], All, get_or, sym, subst}}
 use Rattle.std.proofs.lemmas.List.Elements.{Contains-append_right, Contains-push}
 use Rattle.rm_base.specs.declared.refusal.Refusal.{Refusal}
-use Rattle.rm_report.specs.declared.line.Line.{Line}
-use Rattle.rm_report.specs.declared.line.Line.TheVariants.{Refused}
+use Rattle.rm_report.specs.{Reply.{IsFlagged, IsPlain, LineHasDate, refused_by, said}, declared.line.Line.{Line, TheVariants.{Refused}}}
 use Rattle.rm_report.specs.declared.line.Reply.{Reply}
-use Rattle.rm_report.specs.Reply.{IsFlagged, IsPlain, LineHasDate, refused_by, said}
 
 line-dated : (line : Line) → IsPlain line → LineHasDate line
 line-dated (Refused refusal) plain = absurd plain

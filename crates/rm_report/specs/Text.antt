@@ -1,35 +1,19 @@
 -- The text of a reply.
-use Rattle.std.specs.Prelude.{ℕ, ◌/◌, ◌%◌, Bool, false, true, List, [], ◌∷◌, ◌++◌, codes}
-use Rattle.std.specs.List.{flat_map}
-use Rattle.std.specs.Fmt.{decimal, digit_glyph}
-use Rattle.rm_base.specs.Content.{trimmed}
-use Rattle.rm_base.specs.declared.block.Block.{Block}
-use Rattle.rm_base.specs.declared.refusal.Absent.{Absent}
-use Rattle.rm_base.specs.declared.refusal.Absent.TheVariants.{Thread, File, Block as BlockOf}
-use Rattle.rm_base.specs.declared.refusal.Limit.{Limit}
+use Rattle.std.specs.{Prelude.{ℕ, ◌/◌, ◌%◌, Bool, false, true, List, [], ◌∷◌, ◌++◌, codes}, List.{flat_map}, Fmt.{decimal, digit_glyph}}
+use Rattle.rm_base.specs.{Content.{trimmed}, declared.{block.Block.{Block}, refusal.Absent.{Absent}}}
+use Rattle.rm_base.specs.declared.refusal.{Absent.TheVariants.{Thread, File, Block as BlockOf}, Limit.{Limit}}
 use Rattle.rm_base.specs.declared.refusal.Limit.TheVariants.{Threads, Files, FileBlocks, Blocks, Channels, Incarnations, Records, Bytes, ObjectIds, Sequences, LogRecords, WindowDays, Redundancy}
-use Rattle.rm_base.specs.declared.refusal.ThreadState.{ThreadState}
-use Rattle.rm_base.specs.declared.refusal.ThreadState.TheVariants.{Enabled, Disabled, Last}
-use Rattle.rm_base.specs.declared.refusal.Unknown.{Unknown}
-use Rattle.rm_base.specs.declared.refusal.Unknown.TheVariants.{Entry, Tag, Log, Object, Byte}
-use Rattle.rm_base.specs.declared.refusal.Refusal.{Refusal}
+use Rattle.rm_base.specs.declared.refusal.{ThreadState.{ThreadState, TheVariants.{Enabled, Disabled, Last}}, Unknown.{Unknown}}
+use Rattle.rm_base.specs.declared.refusal.{Unknown.TheVariants.{Entry, Tag, Log, Object, Byte}, Refusal.{Refusal}}
 use Rattle.rm_base.specs.declared.refusal.Refusal.TheVariants.{Rm01, Rm02, Rm03, Rm04, Rm05, Rm06, Rm07, Rm08, Rm09, Rm10, Rm11, Rm12, Rm13, Rm14, Rm15, Rm16, Rm17, Rm18, Rm19}
-use Rattle.rm_moments.specs.Shown.{moment_text}
-use Rattle.rm_history.specs.declared.tree.Standing.{Standing}
-use Rattle.rm_history.specs.declared.tree.Standing.TheVariants.{Current, Parent, Orphan}
-use Rattle.rm_report.specs.declared.line.Packing.{Packing}
-use Rattle.rm_report.specs.declared.line.Packing.TheVariants.{Piece, Copy, Set}
-use Rattle.rm_report.specs.declared.line.Shape.{Shape}
-use Rattle.rm_report.specs.declared.line.Shape.TheVariants.{Full, Level0, Level1}
-use Rattle.rm_base.specs.declared.kinds.Bad.{Bad}
-use Rattle.rm_base.specs.declared.kinds.Bad.TheVariants.{Missing, Damaged as DamagedObject}
-use Rattle.rm_base.specs.declared.kinds.Status.{Status}
-use Rattle.rm_base.specs.declared.kinds.Status.TheVariants.{Available, Unavailable, Expired}
-use Rattle.rm_base.specs.declared.kinds.Policy.{Policy}
+use Rattle.rm_base.specs.declared.kinds.{Bad.{Bad, TheVariants.{Missing, Damaged as DamagedObject}}, Status.{Status}}
+use Rattle.rm_base.specs.declared.kinds.{Status.TheVariants.{Available, Unavailable, Expired}, Policy.{Policy}}
 use Rattle.rm_base.specs.declared.kinds.Policy.TheVariants.{Window, Redundancy as RedundancyPolicy, Nothing}
-use Rattle.rm_report.specs.declared.line.SchemaPlace.{SchemaPlace}
-use Rattle.rm_report.specs.declared.line.SchemaPlace.TheVariants.{At, Lost, OffPath}
-use Rattle.rm_report.specs.declared.line.Line.{Line}
+use Rattle.rm_moments.specs.Shown.{moment_text}
+use Rattle.rm_history.specs.declared.tree.Standing.{Standing, TheVariants.{Current, Parent, Orphan}}
+use Rattle.rm_report.specs.declared.line.{Packing.{Packing, TheVariants.{Piece, Copy, Set}}, Shape.{Shape}}
+use Rattle.rm_report.specs.declared.line.{Shape.TheVariants.{Full, Level0, Level1}, SchemaPlace.{SchemaPlace}}
+use Rattle.rm_report.specs.declared.line.{SchemaPlace.TheVariants.{At, Lost, OffPath}, Line.{Line}}
 use Rattle.rm_report.specs.declared.line.Line.TheVariants.{DatabaseAt, DatafileAt, Written, LogMade, NothingToArchive, Mounted, Opened, Chosen, Recovered, UntilIs, FileIs, BlockIs, BackedUp, NothingToBackUp, IncarnationIs, Dumped, Tracking, ThreadSwitched, Skipped, RestoredFrom, CreatedEmpty, Complete, GapIn, Merged, Stays, StartsAbove, BlockDamaged, Mended, ThreadScn, StatusOf, BadOf, Checked, Uncatalogued, Kept, NotKept, Deleted, DeletedCount, Obsolete, ObsoleteCount, NeedsBackup, NeedCount, Parallelism, Catalogued, FileLost, LogLost, Removed, Damaged, Cut, Renamed, UntilSet, ChannelAllocated, Schema, PieceIs, LogIs, Retention, DuplicatedDatafile, DuplicatedDatabase, Rolled, StandbyMade, StandbyRolled, Resynced, Refused}
 use Rattle.rm_report.specs.declared.line.Reply.{Reply}
 

@@ -1,8 +1,6 @@
 //! The text of a reply.
-ghost use Rattle.std.specs.Prelude.{◌≡◌, ◌≤◌, ◌++◌, IfOk, OnOk, IsTrue};
-ghost use Rattle.std.specs.String.{string_bytes};
-ghost use Rattle.rm_base.specs.Numbers.{last_moment};
-ghost use Rattle.rm_base.specs.declared.refusal.Refusal.TheVariants.{Rm14};
+ghost use Rattle.std.specs.{Prelude.{◌≡◌, ◌≤◌, ◌++◌, IfOk, OnOk, IsTrue}, String.{string_bytes}};
+ghost use Rattle.rm_base.specs.{Numbers.{last_moment}, declared.refusal.Refusal.TheVariants.{Rm14}};
 ghost use Rattle.rm_report.specs.Reply.{HasDate, LineHasDate, HasDates};
 ghost use Rattle.rm_report.specs.Text.{tells_blocks, tells_history, tells_backup, line_text, block_text, backup_text, shape_text, standing_text, refusal_text, absent_text, unknown_text, limit_text, content_text, byte_text, thread_state_text, reply_text};
 

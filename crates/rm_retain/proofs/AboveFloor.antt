@@ -1,23 +1,13 @@
 -- Evidence without what it tells below a floor.
 use Rattle.std.proofs.Common.{◌≡◌, ◌<◌, ◌≤◌, ◌∙◌, ◌⊎◌, inl, inr, ℕ, List, true, refl, ap, sym, subst, arith, Contains}
 use Rattle.std.proofs.lemmas.Bool.{cases_lt}
-use Rattle.rm_base.specs.declared.block.Block.{Block}
-use Rattle.rm_base.specs.declared.block.Change.{Change}
-use Rattle.rm_base.specs.declared.block.Row.{Row}
-use Rattle.rm_history.specs.declared.world.World.{World}
-use Rattle.rm_history.specs.Artefacts.{Base, Level1, Log, high_of}
-use Rattle.rm_history.specs.Tree.{IsTree, owner}
-use Rattle.rm_history.specs.History.{IsHistory}
-use Rattle.rm_history.specs.State.{concerns, state}
-use Rattle.rm_history.proofs.Highs.{high-least, high-above}
-use Rattle.rm_history.proofs.Owners.{owner-owner}
-use Rattle.rm_history.proofs.States.{concerns-from}
+use Rattle.rm_base.specs.declared.block.{Block.{Block}, Change.{Change}, Row.{Row}}
+use Rattle.rm_history.specs.{Artefacts.{Base, Level1, Log, high_of}, Tree.{IsTree, owner}, History.{IsHistory}, State.{concerns, state}}
 use Rattle.rm_history.specs.Evidence.{Evidence, Agrees}
 use Rattle.rm_history.specs.Known.{HasRow, in_base, in_level1, Seen, by_row, by_log, by_creation, Quiet, by_absence, by_logs}
-use Rattle.rm_history.specs.FirstGap.{IsDetermined}
-use Rattle.rm_history.proofs.Logs.{is_of-parts, listed-happened}
-use Rattle.rm_history.proofs.Sound.{row-state, row-is, seen-happened}
-use Rattle.rm_history.proofs.KnownStates.{created-first}
+use Rattle.rm_history.{specs.{FirstGap.{IsDetermined}, declared.world.World.{World}}, proofs.Highs.{high-least, high-above}}
+use Rattle.rm_history.proofs.{Owners.{owner-owner}, States.{concerns-from}, Logs.{is_of-parts, listed-happened}}
+use Rattle.rm_history.proofs.{Sound.{row-state, row-is, seen-happened}, KnownStates.{created-first}}
 
 -- what an artefact of this incarnation tells below `high` of the path of i lies below n, as far as s
 abbrev pub IsLow : World → ℕ → ℕ → ℕ → ℕ → ℕ → Type 0

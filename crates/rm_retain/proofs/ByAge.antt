@@ -1,22 +1,14 @@
 -- Copies in the order of their age, and how many are newer than one of them.
+use Rattle.std.specs.{Prelude.{IfNone, IfSome}, List.{sum_by, Sorted.{IsNonDecreasingBy, IsPermutation, IsStableByKey, ties}}}
+use Rattle.std.specs.{Ordering.{is_lt, nat_cmp}, declared.cmp.Ordering.TheVariants.{Less, Equal, Greater}}
 use Rattle.std.proofs.Common.{◌≡◌, ◌<◌, ◌≤◌, ◌+◌, ◌-◌, ◌∙◌, ◌⊎◌, ◌==◌, ◌&&◌, ◌||◌, inl, inr, nat_lt, not, ℕ, zero, suc, List, [], ◌∷◌, Bool, true, false, cond, Option, Some, None, refl, ap, sym, subst, arith, filter, get_or, length, slice_get, AllPairs, Contains}
-use Rattle.std.specs.Prelude.{IfNone, IfSome}
-use Rattle.std.specs.List.{sum_by}
-use Rattle.std.specs.List.Sorted.{IsNonDecreasingBy, IsPermutation, IsStableByKey, ties}
-use Rattle.std.specs.Ordering.{is_lt, nat_cmp}
-use Rattle.std.specs.declared.cmp.Ordering.TheVariants.{Less, Equal, Greater}
 use Rattle.std.proofs.lemmas.Bool.{cases_lt, cases_order, eq-eqb, eqb-true, false_from_ne_true, le-ltb, lt-ltb, ltb-true}
-use Rattle.std.proofs.lemmas.Bool.Decides.{nat_tests}
-use Rattle.std.proofs.lemmas.List.Elements.{Contains-get_or}
-use Rattle.std.proofs.lemmas.List.Kept.{AllPairs-cons}
-use Rattle.std.proofs.lemmas.List.Sorted.{length_permutation, sum_by-IsPermutation}
-use Rattle.std.proofs.lemmas.List.Sums.{length-filter, sum_by-cons}
+use Rattle.std.proofs.lemmas.{Bool.Decides.{nat_tests}, List.{Elements.{Contains-get_or}, Kept.{AllPairs-cons}}}
+use Rattle.std.proofs.lemmas.List.{Sorted.{length_permutation, sum_by-IsPermutation}, Sums.{length-filter, sum_by-cons}}
 use Rattle.std.proofs.lemmas.Option.{get_or_from_slice_get, same_Some}
-use Rattle.rm_base.proofs.Lists.{filter_to, find_cases, find_none}
-use Rattle.rm_base.proofs.Members.{in-front, behind}
+use Rattle.rm_base.proofs.{Lists.{filter_to, find_cases, find_none}, Members.{in-front, behind}}
 use Rattle.rm_evidence.proofs.Extending.{pairs-head, pairs-tail}
-use Rattle.rm_retain.specs.declared.copies.Backup.{Backup}
-use Rattle.rm_retain.specs.Chosen.{is_newer, rank, newest, nth_newest, IsByAge, is_among}
+use Rattle.rm_retain.specs.{Chosen.{is_newer, rank, newest, nth_newest, IsByAge, is_among}, declared.copies.Backup.{Backup}}
 use Rattle.rm_retain.proofs.Ranks.{IsRising, rising_filter, filter_shorter, none_kept}
 use Rattle.rm_retain.proofs.SecondTime.{never_of, above_of, rank_rises, rising_one}
 

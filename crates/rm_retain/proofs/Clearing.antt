@@ -1,43 +1,22 @@
 -- What is gathered before and after obsolete records went.
 use Rattle.std.proofs.Common.{◌≡◌, ◌<◌, ◌∙◌, ◌⊎◌, inl, inr, nat_lt, ℕ, List, [], refl, ap, sym, subst, arith, map, filter, Contains}
-use Rattle.std.proofs.lemmas.List.Elements.{All-contains, Contains-append_cases}
-use Rattle.std.proofs.lemmas.Bool.{ltb-true}
-use Rattle.rm_base.specs.Store.{Held}
-use Rattle.rm_catalog.specs.declared.record.PieceEntry.{PieceEntry}
-use Rattle.rm_catalog.specs.declared.record.Record.{Record}
-use Rattle.rm_catalog.specs.declared.record.Record.TheVariants as records
-use Rattle.rm_catalog.specs.declared.record.SetEntry.{SetEntry}
-use Rattle.rm_catalog.specs.declared.record.SetPart.{SetPart}
-use Rattle.rm_catalog.specs.Keys.{part_piece}
+use Rattle.std.proofs.lemmas.{List.Elements.{All-contains, Contains-append_cases}, Bool.{ltb-true}}
+use Rattle.rm_base.{specs.Store.{Held}, proofs.{Members.{none-in}, Lists.{filter_from, map_from, map_to}}}
+use Rattle.rm_catalog.specs.{Keys.{part_piece}, declared.record.{PieceEntry.{PieceEntry}, Record.{Record, TheVariants as records}}}
+use Rattle.rm_catalog.specs.declared.record.{SetEntry.{SetEntry}, SetPart.{SetPart}}
 use Rattle.rm_blocks.specs.File.{File}
-use Rattle.rm_evidence.specs.declared.evidence.Evidence.{Evidence}
-use Rattle.rm_evidence.specs.declared.evidence.InPlace.{InPlace}
-use Rattle.rm_evidence.specs.Available.{HasPieceObject, HasSetObject}
-use Rattle.rm_evidence.specs.Database.{Database, database_in, dbid_in}
-use Rattle.rm_evidence.specs.Gathered.{IsGathered, IsPieceAmong, IsBaseOf, IsLevel1Of, IsLogOf, placed, placed_piece}
-use Rattle.rm_evidence.specs.Known.{known_of}
-use Rattle.rm_evidence.specs.Names.{piece_name, set_name}
-use Rattle.rm_evidence.specs.Objects.{IsSetObject}
-use Rattle.rm_evidence.proofs.Parts.{part-of}
-use Rattle.rm_history.specs.declared.world.World.{World}
-use Rattle.rm_history.specs.Artefacts.{Base, Level1, Log}
-use Rattle.rm_base.proofs.Members.{none-in}
-use Rattle.rm_base.proofs.Lists.{filter_from, map_from, map_to}
-use Rattle.rm_piece.specs.declared.piece.Piece.{Piece}
-use Rattle.rm_piece.specs.declared.set.Set.{Set}
+use Rattle.rm_evidence.specs.{Available.{HasPieceObject, HasSetObject}, Database.{Database, database_in, dbid_in}}
+use Rattle.rm_evidence.specs.{Gathered.{IsGathered, IsPieceAmong, IsBaseOf, IsLevel1Of, IsLogOf, placed, placed_piece}, Known.{known_of}}
+use Rattle.rm_evidence.specs.{Names.{piece_name, set_name}, Objects.{IsSetObject}, declared.evidence.Evidence.{Evidence}}
+use Rattle.rm_evidence.{specs.declared.evidence.InPlace.{InPlace}, proofs.Parts.{part-of}}
+use Rattle.rm_history.specs.{Artefacts.{Base, Level1, Log}, declared.world.World.{World}}
+use Rattle.rm_piece.specs.{Artefacts.{base_of, level1_of}, Sets.{IsMember}, Valid.{IsPiece}, declared.{piece.Piece.{Piece}, set.Set.{Set}}}
 use Rattle.rm_piece.specs.declared.set.SetFile.{SetFile}
-use Rattle.rm_piece.specs.Artefacts.{base_of, level1_of}
-use Rattle.rm_piece.specs.Sets.{IsMember}
-use Rattle.rm_piece.specs.Valid.{IsPiece}
-use Rattle.rm_redo.specs.declared.log_file.LogFile.{LogFile}
-use Rattle.rm_redo.specs.LogFile.{log_of}
-use Rattle.rm_retain.specs.declared.copies.Backup.{Backup}
-use Rattle.rm_retain.specs.Chosen.{Retention}
-use Rattle.rm_retain.specs.Obsolete.{IsNeedlessBackup, IsNeedlessLog}
+use Rattle.rm_redo.specs.{LogFile.{log_of}, declared.log_file.LogFile.{LogFile}}
+use Rattle.rm_retain.specs.{Chosen.{Retention}, Obsolete.{IsNeedlessBackup, IsNeedlessLog}}
 use Rattle.rm_retain.specs.Catalogued.{backup_of, backup_in, backups_of, copies_in}
-use Rattle.rm_retain.specs.Losing.{Describes, IsWhole, HasCopy, IsGone, LosesNeedless}
-use Rattle.rm_retain.specs.Cleared.{IsCleared}
-use Rattle.rm_retain.proofs.Artefacts.{seen, IsOfGone, named_had, named_seen, named_stays}
+use Rattle.rm_retain.specs.{Losing.{Describes, IsWhole, HasCopy, IsGone, LosesNeedless}, Cleared.{IsCleared}}
+use Rattle.rm_retain.{specs.declared.copies.Backup.{Backup}, proofs.Artefacts.{seen, IsOfGone, named_had, named_seen, named_stays}}
 
 -- a piece that a needless record describes
 pub record PieceGone (r : Retention) (id : ℕ) (a : Piece) : Type 0 where

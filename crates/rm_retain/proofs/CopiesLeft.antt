@@ -1,29 +1,18 @@
 -- The copies that are gathered before and after needless records went.
 use Rattle.std.proofs.Common.{◌≡◌, ◌<◌, ◌∙◌, ◌++◌, inl, inr, nat_lt, ℕ, List, [], ◌∷◌, Bool, ap, sym, subst, arith, map, filter, get_or, AllPairs, Contains}
-use Rattle.std.proofs.lemmas.Bool.{lt-ltb, ltb-true}
-use Rattle.std.proofs.lemmas.List.Elements.{Contains-append_right, Contains-append_cases, filter-append}
+use Rattle.std.proofs.lemmas.{Bool.{lt-ltb, ltb-true}, List.Elements.{Contains-append_right, Contains-append_cases, filter-append}}
 use Rattle.std.proofs.lemmas.List.Kept.{AllPairs-filter}
-use Rattle.rm_base.specs.Store.{Held}
-use Rattle.rm_base.specs.declared.kinds.Policy.{Policy}
-use Rattle.rm_catalog.specs.declared.record.Record.{Record}
-use Rattle.rm_catalog.specs.declared.record.Record.TheVariants as records
-use Rattle.rm_evidence.specs.declared.evidence.Evidence.{Evidence}
-use Rattle.rm_evidence.specs.declared.evidence.InPlace.{InPlace}
+use Rattle.rm_base.{specs.{Store.{Held}, declared.kinds.Policy.{Policy}}, proofs.Lists.{filter_from, filter_to, map_from, map_to}}
+use Rattle.rm_catalog.specs.declared.record.Record.{Record, TheVariants as records}
 use Rattle.rm_evidence.specs.Gathered.{ByIdAndFile, IsGathered, IsBaseOf, placed, placed_piece}
-use Rattle.rm_evidence.proofs.Extending.{only-in, pairs-append, pairs-head, pairs-tail}
+use Rattle.rm_evidence.specs.{Database.{current_in, database_in, dbid_in, world_of}, declared.evidence.Evidence.{Evidence}}
+use Rattle.rm_evidence.{specs.declared.evidence.InPlace.{InPlace}, proofs.Extending.{only-in, pairs-append, pairs-head, pairs-tail}}
 use Rattle.rm_history.specs.declared.world.World.{World}
-use Rattle.rm_base.proofs.Lists.{filter_from, filter_to, map_from, map_to}
-use Rattle.rm_evidence.specs.Database.{current_in, database_in, dbid_in, world_of}
 use Rattle.rm_piece.specs.declared.piece.Piece.{Piece}
-use Rattle.rm_retain.specs.declared.copies.Backup.{Backup}
-use Rattle.rm_retain.specs.Chosen.{Retention, Ascend}
-use Rattle.rm_retain.specs.Obsolete.{IsNeedlessBackup}
-use Rattle.rm_retain.specs.Catalogued.{backup_of, backup_in, backups_of, copies_in, by_records, IsObsoleteRecord}
-use Rattle.rm_retain.specs.Cleared.{IsCleared}
-use Rattle.rm_retain.specs.Remaining.{AreRemaining, with_copies}
-use Rattle.rm_retain.proofs.Ranks.{IsEarlier, none_kept}
-use Rattle.rm_retain.proofs.Clearing.{base_had, base_stays, placed_number}
-use Rattle.rm_retain.proofs.SecondTime.{backup_again, log_again}
+use Rattle.rm_retain.specs.{Chosen.{Retention, Ascend}, Obsolete.{IsNeedlessBackup}}
+use Rattle.rm_retain.specs.{Catalogued.{backup_of, backup_in, backups_of, copies_in, by_records, IsObsoleteRecord}, Cleared.{IsCleared}}
+use Rattle.rm_retain.{specs.{Remaining.{AreRemaining, with_copies}, declared.copies.Backup.{Backup}}, proofs.Ranks.{IsEarlier, none_kept}}
+use Rattle.rm_retain.proofs.{Clearing.{base_had, base_stays, placed_number}, SecondTime.{backup_again, log_again}}
 
 ascend_copies : (xs : List (ℕ × Piece)) → AllPairs ByIdAndFile xs → Ascend (map backup_of xs)
 ascend_copies [] ascend = λ i j d less inside. absurd (omega arith)

@@ -1,24 +1,15 @@
 -- What is needed, as the code tests it, says whether a backup is needless, and a log obsolete.
-use Rattle.std.proofs.Common.{◌≡◌, ◌≢◌, ◌≤◌, ◌∙◌, ◌↔◌, ◌==◌, ◌&&◌, ◌||◌, inl, inr, nat_lt, min, not, ℕ, List, Bool, true, false, IsTrue, refl, ap, sym, subst, arith, map, get_or, All, Contains}
 use Rattle.std.specs.List.{list_any}
+use Rattle.std.proofs.Common.{◌≡◌, ◌≢◌, ◌≤◌, ◌∙◌, ◌↔◌, ◌==◌, ◌&&◌, ◌||◌, inl, inr, nat_lt, min, not, ℕ, List, Bool, true, false, IsTrue, refl, ap, sym, subst, arith, map, get_or, All, Contains}
 use Rattle.std.proofs.lemmas.Bool.{and_parts, cases_lt, eq-eqb, eqb-true, ltb-false, ltb-true, or_cases, or_parts}
 use Rattle.std.proofs.lemmas.List.Elements.{All-contains, All-map, Contains-get_or}
-use Rattle.rm_base.specs.declared.kinds.Policy.TheVariants.{Nothing}
-use Rattle.rm_catalog.specs.declared.record.Record.{Record}
-use Rattle.rm_catalog.specs.declared.record.SetEntry.{SetEntry}
-use Rattle.rm_catalog.specs.declared.record.SetPart.{SetPart}
-use Rattle.rm_catalog.specs.Keys.{part_piece}
-use Rattle.rm_catalog.specs.Trees.{nodes}
-use Rattle.rm_history.specs.declared.tree.Incarnation.{Incarnation}
-use Rattle.rm_history.specs.Tree.{IsShared}
-use Rattle.rm_retain.specs.declared.copies.Backup.{Backup}
-use Rattle.rm_retain.specs.declared.file_need.FileNeed.{FileNeed}
-use Rattle.rm_retain.specs.declared.needs.Needs.{Needs}
-use Rattle.rm_retain.specs.Catalogued.{backup_in, backups_of}
-use Rattle.rm_retain.specs.Chosen.{Retention, IsChosen, chosen, floor}
+use Rattle.rm_base.{specs.declared.kinds.Policy.TheVariants.{Nothing}, proofs.Lists.{any_from, any_none, map_to}}
+use Rattle.rm_catalog.specs.{Keys.{part_piece}, Trees.{nodes}, declared.record.{Record.{Record}, SetEntry.{SetEntry}, SetPart.{SetPart}}}
+use Rattle.rm_history.specs.{Tree.{IsShared}, declared.tree.Incarnation.{Incarnation}}
+use Rattle.rm_retain.specs.{Catalogued.{backup_in, backups_of}, Chosen.{Retention, IsChosen, chosen, floor}}
 use Rattle.rm_retain.specs.Obsolete.{IsClip, of_current, of_other, ClipsTo, IsOnPath, IsNeedlessBackup, IsObsoleteLog, IsObsoleteSet}
-use Rattle.rm_retain.specs.Needs.{needed_by, needs_backup, needs_clip, AreNeeds}
-use Rattle.rm_base.proofs.Lists.{any_from, any_none, map_to}
+use Rattle.rm_retain.specs.{Needs.{needed_by, needs_backup, needs_clip, AreNeeds}, declared.copies.Backup.{Backup}}
+use Rattle.rm_retain.specs.declared.{file_need.FileNeed.{FileNeed}, needs.Needs.{Needs}}
 
 shared_least : (tree : List Incarnation) (i j s t : ℕ) → IsShared tree i j s → IsShared tree i j t → t ≤ s
 shared_least tree i j s t first second = elim (cases_lt s t) [

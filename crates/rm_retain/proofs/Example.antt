@@ -2,32 +2,18 @@
 -- would not hold.
 use Rattle.std.proofs.Common.{rules, Bool, true, false, cond, Option, zero, suc, ◌-◌, eqb, slice_get, ◌≡◌, ◌<◌, ◌≤◌, ◌∙◌, inl, inr, ℕ, [], ◌∷◌, Some, None, refl, sym, subst, arith, map, Contains}
 use Rattle.std.proofs.lemmas.Bool.{leb-true}
-use Rattle.rm_base.specs.Content.{padded}
-use Rattle.rm_base.specs.declared.block.Block.{Block}
-use Rattle.rm_base.specs.declared.block.Change.{Change}
-use Rattle.rm_base.specs.declared.block.Row.{Row}
+use Rattle.rm_base.specs.{Content.{padded}, declared.block.{Block.{Block}, Change.{Change}, Row.{Row}}}
 use Rattle.rm_base.proofs.Members.{in-front, behind, none-in, first-or-rest}
-use Rattle.rm_history.specs.declared.world.Datafile.{Datafile}
-use Rattle.rm_history.specs.Artefacts.{Base}
-use Rattle.rm_history.specs.Threads.{IsEnabled}
-use Rattle.rm_history.specs.Tree.{owner, segment_end, is_on_path}
-use Rattle.rm_history.specs.World.{file_of}
-use Rattle.rm_history.specs.History.{IsChange, IsHistory}
-use Rattle.rm_history.specs.Agrees.{IsRow, BaseAgrees, LogAgrees}
-use Rattle.rm_history.proofs.Enabled.{unswitched}
-use Rattle.rm_history.proofs.Histories.{IsHistory-push_above}
-use Rattle.rm_history.proofs.Owners.{owner-first}
-use Rattle.rm_history.specs.Evidence.{Agrees}
+use Rattle.rm_history.specs.{Artefacts.{Base}, Threads.{IsEnabled}, Tree.{owner, segment_end, is_on_path}, World.{file_of}}
+use Rattle.rm_history.specs.{History.{IsChange, IsHistory}, Agrees.{IsRow, BaseAgrees, LogAgrees}, Evidence.{Agrees}}
 use Rattle.rm_history.specs.Known.{HasRow, in_base, in_level1, Seen, by_row, by_log, by_creation, Quiet, by_absence, by_logs, Determined}
-use Rattle.rm_history.specs.FirstGap.{IsTarget, IsDetermined}
-use Rattle.rm_history.specs.Unknown.{IsWorld}
-use Rattle.rm_history.proofs.Example as known
-use Rattle.rm_retain.specs.declared.copies.Backup.{Backup}
+use Rattle.rm_history.specs.{FirstGap.{IsTarget, IsDetermined}, Unknown.{IsWorld}, declared.world.Datafile.{Datafile}}
+use Rattle.rm_history.proofs.{Example as known, Enabled.{unswitched}, Histories.{IsHistory-push_above}, Owners.{owner-first}}
 use Rattle.rm_retain.specs.Chosen.{IsChosen, chosen, floor}
 use Rattle.rm_retain.specs.Example.{world, change, history, row, first, second, late, log, before, after, backup, window}
 use Rattle.rm_retain.specs.Losing.{IsWhole, HasCopy, IsGone, LosesNeedless, FitsHistory}
-use Rattle.rm_retain.specs.Obsolete.{of_current, ClipsTo, IsNeedlessBackup, IsNeedlessLog}
-use Rattle.rm_retain.specs.Window.{IsInWindow}
+use Rattle.rm_retain.specs.{Obsolete.{of_current, ClipsTo, IsNeedlessBackup, IsNeedlessLog}, Window.{IsInWindow}}
+use Rattle.rm_retain.specs.declared.copies.Backup.{Backup}
 
 -- the tree and the datafile are those of the other example
 pub is_world : IsWorld world

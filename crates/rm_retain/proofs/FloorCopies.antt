@@ -1,16 +1,11 @@
 -- On what a floor stands, and what lies below it.
-use Rattle.std.proofs.Common.{◌≡◌, ◌<◌, ◌≤◌, ◌+◌, ◌⊎◌, ◌==◌, ◌&&◌, inl, inr, nat_lt, ℕ, true, ap, sym, arith, Contains}
 use Rattle.std.specs.Option.{option_map_or}
-use Rattle.std.proofs.lemmas.Bool.{and_parts, cases_lt, eqb-true}
-use Rattle.std.proofs.lemmas.Bool.Decides.{nat_tests}
-use Rattle.rm_base.specs.Numbers.{last_scn}
-use Rattle.rm_history.specs.Tree.{IsTree, IsShared, owner, is_within}
-use Rattle.rm_history.specs.World.{creation_of}
-use Rattle.rm_history.proofs.Segments.{parted}
-use Rattle.rm_base.proofs.Lists.{filter_from, filter_to, find_cases, map_to}
-use Rattle.rm_retain.specs.declared.copies.Backup.{Backup}
+use Rattle.std.proofs.Common.{◌≡◌, ◌<◌, ◌≤◌, ◌+◌, ◌⊎◌, ◌==◌, ◌&&◌, inl, inr, nat_lt, ℕ, true, ap, sym, arith, Contains}
+use Rattle.std.proofs.lemmas.Bool.{and_parts, cases_lt, eqb-true, Decides.{nat_tests}}
+use Rattle.rm_base.{specs.Numbers.{last_scn}, proofs.Lists.{filter_from, filter_to, find_cases, map_to}}
+use Rattle.rm_history.{specs.{Tree.{IsTree, IsShared, owner, is_within}, World.{creation_of}}, proofs.Segments.{parted}}
 use Rattle.rm_retain.specs.Chosen.{Retention, is_candidate, is_before_window, candidates, rank, wanted, chosen, IsChosen, floor}
-use Rattle.rm_retain.specs.Obsolete.{IsClip, of_current, of_other, ClipsTo}
+use Rattle.rm_retain.specs.{Obsolete.{IsClip, of_current, of_other, ClipsTo}, declared.copies.Backup.{Backup}}
 
 -- a chosen copy whose checkpoint is the floor
 pub record StandsOn (r : Retention) (f : ℕ) : Type 0 where

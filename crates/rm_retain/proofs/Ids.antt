@@ -1,19 +1,12 @@
 -- The ids of obsolete records, one record after the other, and in order.
+use Rattle.std.specs.{Bool.{Decides}, List.Sorted.{IsNonDecreasingBy, IsPermutation}}
 use Rattle.std.proofs.Common.{◌≡◌, ◌≢◌, ◌<◌, ◌≤◌, ◌+◌, eqb, ◌∙◌, ◌∷◌, ◌++◌, [], ℕ, List, Some, inl, inr, take, length, get_or, AllPairs, Contains, refl, ap, sym, subst, arith}
-use Rattle.std.specs.Bool.{Decides}
-use Rattle.std.specs.List.Sorted.{IsNonDecreasingBy, IsPermutation}
-use Rattle.std.proofs.lemmas.Bool.Decides.{Decides-eqb, nat_tests}
-use Rattle.std.proofs.lemmas.Map.Keys.{IsDistinct-IsPermutation}
+use Rattle.std.proofs.lemmas.{Bool.Decides.{Decides-eqb, nat_tests}, Map.Keys.{IsDistinct-IsPermutation}}
 use Rattle.std.proofs.lemmas.Map.Made.{AllPairs-from_IsDistinct, IsDistinct-from_AllPairs}
-use Rattle.rm_catalog.specs.declared.record.Record.{Record}
-use Rattle.rm_catalog.specs.declared.record.Record.TheVariants as records
-use Rattle.rm_catalog.specs.Keys.{key_of}
+use Rattle.rm_catalog.specs.{Keys.{key_of}, declared.record.Record.{Record, TheVariants as records}}
 use Rattle.rm_base.proofs.Lists.{at_end, front_or_end, in_front_part, take_more}
-use Rattle.rm_evidence.specs.Names.{object_id}
-use Rattle.rm_evidence.proofs.Extending.{only-in, pairs-append}
-use Rattle.rm_evidence.proofs.Single.{AreRelated}
-use Rattle.rm_retain.specs.Chosen.{Retention}
-use Rattle.rm_retain.specs.Catalogued.{IsObsoleteRecord, AreObsolete}
+use Rattle.rm_evidence.{specs.Names.{object_id}, proofs.{Extending.{only-in, pairs-append}, Single.{AreRelated}}}
+use Rattle.rm_retain.specs.{Chosen.{Retention}, Catalogued.{IsObsoleteRecord, AreObsolete}}
 
 -- a record more that is obsolete
 pub exactly_more : (r : Retention) (rs : List Record) (row : Record) (ids : List ℕ) → AreObsolete rs r ids → IsObsoleteRecord r row → AreObsolete (rs ++ row ∷ []) r (ids ++ (key_of row).id ∷ [])

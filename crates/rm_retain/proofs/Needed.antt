@@ -1,16 +1,11 @@
 -- What is needed of one datafile after the other.
-use Rattle.std.proofs.Common.{◌≡◌, ◌+◌, ◌∷◌, ◌++◌, [], ℕ, List, Some, inl, inr, sym, subst, arith, Contains}
-use Rattle.std.proofs.lemmas.Bool.{cases_lt}
+use Rattle.std.proofs.{Common.{◌≡◌, ◌+◌, ◌∷◌, ◌++◌, [], ℕ, List, Some, inl, inr, sym, subst, arith, Contains}, lemmas.Bool.{cases_lt}}
 use Rattle.rm_base.proofs.Lists.{at_end, front_or_end, in_front_part}
-use Rattle.rm_catalog.specs.declared.record.Record.{Record}
-use Rattle.rm_catalog.specs.Rules.{IsCatalog}
+use Rattle.rm_catalog.specs.{Rules.{IsCatalog}, declared.record.Record.{Record}}
 use Rattle.rm_history.specs.World.{file_of}
-use Rattle.rm_evidence.specs.Database.{world_of}
-use Rattle.rm_evidence.proofs.Current.{file_number}
+use Rattle.rm_evidence.{specs.Database.{world_of}, proofs.Current.{file_number}}
+use Rattle.rm_retain.specs.{Chosen.{Retention}, Needs.{IsFileNeed, AreFileNeeds, HaveFileNeeds}, Obsolete.{IsOnPath}}
 use Rattle.rm_retain.specs.declared.file_need.FileNeed.{FileNeed}
-use Rattle.rm_retain.specs.Chosen.{Retention}
-use Rattle.rm_retain.specs.Needs.{IsFileNeed, AreFileNeeds, HaveFileNeeds}
-use Rattle.rm_retain.specs.Obsolete.{IsOnPath}
 
 module _ (r : Retention) (n : ℕ) (xs : List FileNeed) where
   -- one more that is needed

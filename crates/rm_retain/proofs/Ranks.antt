@@ -1,17 +1,12 @@
 -- Lists that ascend by id, and how many come before one.
 use Rattle.std.proofs.Common.{◌≡◌, ◌<◌, ◌≤◌, ◌∙◌, ◌⊎◌, ◌==◌, ◌&&◌, inl, inr, ℕ, List, [], ◌∷◌, Bool, true, false, cond, not, refl, ap, sym, subst, arith, filter, length, Contains, map, get_or, AllPairs}
-use Rattle.std.proofs.lemmas.Bool.{and_parts, cases_Bool, ne_eqb, eq-eqb, eqb-true, false_from_ne_true}
-use Rattle.std.proofs.lemmas.List.Elements.{Contains-get_or}
-use Rattle.std.proofs.lemmas.List.Kept.{AllPairs-cons, AllPairs-filter}
-use Rattle.std.proofs.lemmas.List.Sums.{length-filter, count_by-le-length}
-use Rattle.rm_base.proofs.Members.{in-front, behind, none-in, first-or-rest}
+use Rattle.std.proofs.lemmas.{Bool.{and_parts, cases_Bool, ne_eqb, eq-eqb, eqb-true, false_from_ne_true}, List.Elements.{Contains-get_or}}
+use Rattle.std.proofs.lemmas.List.{Kept.{AllPairs-cons, AllPairs-filter}, Sums.{length-filter, count_by-le-length}}
+use Rattle.rm_base.{specs.declared.kinds.Policy.{Policy}, proofs.Members.{in-front, behind, none-in, first-or-rest}}
 use Rattle.rm_base.proofs.Lists.{filter_from, filter_to, map_from}
-use Rattle.rm_base.specs.declared.kinds.Policy.{Policy}
-use Rattle.rm_history.specs.declared.tree.Incarnation.{Incarnation}
-use Rattle.rm_history.specs.Tree.{is_within}
+use Rattle.rm_history.specs.{Tree.{is_within}, declared.tree.Incarnation.{Incarnation}}
 use Rattle.rm_evidence.proofs.Extending.{pairs-head, pairs-tail}
-use Rattle.rm_retain.specs.declared.copies.Backup.{Backup}
-use Rattle.rm_retain.specs.Chosen.{is_before_window, is_candidate, Ascend, AscendById}
+use Rattle.rm_retain.specs.{Chosen.{is_before_window, is_candidate, Ascend, AscendById}, declared.copies.Backup.{Backup}}
 
 -- x stands before y: its id is lower, or in the same set its datafile
 abbrev pub IsEarlier : Backup → Backup → Type 0

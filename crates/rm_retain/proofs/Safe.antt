@@ -1,27 +1,14 @@
 -- The needless records of a window tell nothing that its targets need.
-use Rattle.std.proofs.Common.{◌≡◌, ◌<◌, ◌≤◌, ◌∙◌, ◌⊎◌, inl, inr, ℕ, List, true, ap, sym, subst, arith}
-use Rattle.std.specs.Option.{option_map_or}
+use Rattle.std.{specs.Option.{option_map_or}, proofs.Common.{◌≡◌, ◌<◌, ◌≤◌, ◌∙◌, ◌⊎◌, inl, inr, ℕ, List, true, ap, sym, subst, arith}}
 use Rattle.std.proofs.lemmas.Bool.{leb-true}
-use Rattle.rm_base.specs.declared.block.Block.{Block}
-use Rattle.rm_base.specs.declared.block.Change.{Change}
-use Rattle.rm_base.specs.declared.block.Row.{Row}
-use Rattle.rm_base.specs.declared.kinds.Policy.{Policy}
-use Rattle.rm_base.specs.declared.kinds.Policy.TheVariants.{Window}
-use Rattle.rm_history.specs.Artefacts.{high_of}
-use Rattle.rm_history.specs.Tree.{owner, end_of}
-use Rattle.rm_history.specs.World.{creation_of, blocks_of}
-use Rattle.rm_history.proofs.Owners.{owner-owner}
-use Rattle.rm_history.specs.Evidence.{Evidence}
-use Rattle.rm_history.specs.Known.{Determined}
-use Rattle.rm_history.specs.FirstGap.{IsTarget, IsRecoverable}
-use Rattle.rm_retain.specs.Chosen.{Retention, is_before_window, IsChosen, floor}
-use Rattle.rm_retain.specs.Obsolete.{ClipsTo, IsOnPath}
-use Rattle.rm_retain.specs.Window.{IsInWindow}
-use Rattle.rm_retain.specs.Losing.{HasCopy, IsGone, LosesNeedless, FitsHistory}
-use Rattle.rm_retain.proofs.AboveFloor.{IsLow, Keeps, HasFloorCopy}
+use Rattle.rm_base.specs.declared.{block.{Block.{Block}, Change.{Change}, Row.{Row}}, kinds.Policy.{Policy, TheVariants.{Window}}}
+use Rattle.rm_history.specs.{Artefacts.{high_of}, Tree.{owner, end_of}, World.{creation_of, blocks_of}, Evidence.{Evidence}}
+use Rattle.rm_history.{specs.{Known.{Determined}, FirstGap.{IsTarget, IsRecoverable}}, proofs.Owners.{owner-owner}}
+use Rattle.rm_history.proofs.Segments.{is_within_alike}
+use Rattle.rm_retain.specs.{Chosen.{Retention, is_before_window, IsChosen, floor}, Obsolete.{ClipsTo, IsOnPath}, Window.{IsInWindow}}
+use Rattle.rm_retain.{specs.Losing.{HasCopy, IsGone, LosesNeedless, FitsHistory}, proofs.AboveFloor.{IsLow, Keeps, HasFloorCopy}}
 use Rattle.rm_retain.proofs.FloorCopies.{StandsOn, floor_cases, clip_low, candidate_parts}
 use Rattle.rm_retain.proofs.StaysTold.{exists_parts, exists_from, kept, same_told}
-use Rattle.rm_history.proofs.Segments.{is_within_alike}
 
 module _ (h : List Change) (r : Retention) (old new : Evidence) (days i s : ℕ) (policy : r.policy ≡ Window days) (is : FitsHistory h r old) (left : LosesNeedless r old new) (target : IsInWindow r i s) where
   -- up to the target both paths have the same owners

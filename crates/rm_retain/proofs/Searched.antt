@@ -1,8 +1,7 @@
 -- A search in ids that ascend.
-use Rattle.std.proofs.Common.{◌≡◌, ◌<◌, ◌≤◌, ◌==◌, inl, inr, ℕ, List, true, false, sym, subst, arith, get_or, length, AllPairs}
 use Rattle.std.specs.List.{list_any}
-use Rattle.std.proofs.lemmas.List.{get_or_default}
-use Rattle.std.proofs.lemmas.Bool.{cases_lt, eq-eqb, eqb-true}
+use Rattle.std.proofs.Common.{◌≡◌, ◌<◌, ◌≤◌, ◌==◌, inl, inr, ℕ, List, true, false, sym, subst, arith, get_or, length, AllPairs}
+use Rattle.std.proofs.lemmas.{List.{get_or_default}, Bool.{cases_lt, eq-eqb, eqb-true}}
 use Rattle.rm_base.proofs.Lists.{any_to, any_fails}
 
 -- they do not fall

@@ -1,17 +1,13 @@
 -- Retention by what it left asks for nothing more to go.
-use Rattle.std.proofs.Common.{◌≡◌, ◌<◌, ◌≤◌, ◌+◌, ◌∙◌, ◌⊎◌, ◌==◌, ◌&&◌, ◌||◌, inl, inr, nat_lt, nat_le, ℕ, zero, suc, List, [], ◌∷◌, Bool, true, Option, ap, sym, subst, arith, filter, map, Contains}
 use Rattle.std.specs.Option.{option_map_or}
-use Rattle.std.proofs.lemmas.Bool.{cases_lt, cases_order, eq-eqb, eqb-true, le-leb, leb-true, lt-ltb, ltb-true}
-use Rattle.std.proofs.lemmas.Bool.Decides.{nat_tests}
+use Rattle.std.proofs.Common.{◌≡◌, ◌<◌, ◌≤◌, ◌+◌, ◌∙◌, ◌⊎◌, ◌==◌, ◌&&◌, ◌||◌, inl, inr, nat_lt, nat_le, ℕ, zero, suc, List, [], ◌∷◌, Bool, true, Option, ap, sym, subst, arith, filter, map, Contains}
+use Rattle.std.proofs.lemmas.Bool.{cases_lt, cases_order, eq-eqb, eqb-true, le-leb, leb-true, lt-ltb, ltb-true, Decides.{nat_tests}}
 use Rattle.std.proofs.lemmas.List.Sums.{length-filter}
-use Rattle.rm_base.proofs.Members.{first-or-rest}
+use Rattle.rm_base.proofs.{Members.{first-or-rest}, Lists.{filter_from, filter_to, find_cases, find_none, find_passing, map_from, map_to}}
 use Rattle.rm_history.specs.World.{creation_of}
-use Rattle.rm_base.proofs.Lists.{filter_from, filter_to, find_cases, find_none, find_passing, map_from, map_to}
-use Rattle.rm_retain.specs.declared.copies.Backup.{Backup}
 use Rattle.rm_retain.specs.Chosen.{Retention, is_candidate, candidates, is_newer, rank, nth_newest, wanted, chosen, IsChosen, floor}
-use Rattle.rm_retain.specs.Obsolete.{ClipsTo, IsOnPath, IsNeedlessBackup, IsNeedlessLog}
-use Rattle.rm_retain.specs.Remaining.{AreRemaining, with_copies}
-use Rattle.rm_retain.proofs.FloorCopies.{candidate_parts}
+use Rattle.rm_retain.specs.{Obsolete.{ClipsTo, IsOnPath, IsNeedlessBackup, IsNeedlessLog}, Remaining.{AreRemaining, with_copies}}
+use Rattle.rm_retain.{specs.declared.copies.Backup.{Backup}, proofs.FloorCopies.{candidate_parts}}
 use Rattle.rm_retain.proofs.Ranks.{IsRising, candidates_ascend, rising_filter, rising_from, part_length, part_shorter}
 
 trans_of : (a b c i j k : ℕ) → (nat_lt b a || ((a == b) && nat_lt j i)) ≡ true → (nat_lt c b || ((b == c) && nat_lt k j)) ≡ true → (nat_lt c a || ((a == c) && nat_lt k i)) ≡ true

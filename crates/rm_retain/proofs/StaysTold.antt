@@ -1,21 +1,11 @@
 -- What was told above a floor that is the datafile's creation, or stands on a copy, stays told.
-use Rattle.std.proofs.Common.{◌≡◌, ◌<◌, ◌≤◌, ◌∙◌, ◌⊎◌, ◌==◌, ◌&&◌, inl, inr, nat_lt, ℕ, List, Some, true, ap, sym, subst, arith}
 use Rattle.std.specs.Option.{option_map_or}
-use Rattle.std.proofs.lemmas.Bool.{cases_lt}
-use Rattle.std.proofs.lemmas.Bool.Decides.{nat_tests}
-use Rattle.rm_base.specs.Content.{zero_block}
-use Rattle.rm_base.specs.declared.block.Block.{Block}
-use Rattle.rm_base.specs.declared.block.Change.{Change}
-use Rattle.rm_base.specs.declared.block.Row.{Row}
-use Rattle.rm_history.specs.declared.world.Datafile.{Datafile}
-use Rattle.rm_history.specs.declared.world.World.{World}
-use Rattle.rm_history.specs.Tree.{IsTree, owner}
-use Rattle.rm_history.specs.World.{creation_of, file_of}
-use Rattle.rm_history.specs.History.{IsHistory}
-use Rattle.rm_history.specs.Evidence.{Evidence, Agrees}
-use Rattle.rm_history.specs.Known.{Seen, by_creation, Determined}
-use Rattle.rm_history.specs.FirstGap.{IsTarget, IsDetermined}
-use Rattle.rm_history.proofs.Facts.{told-is-true}
+use Rattle.std.proofs.Common.{◌≡◌, ◌<◌, ◌≤◌, ◌∙◌, ◌⊎◌, ◌==◌, ◌&&◌, inl, inr, nat_lt, ℕ, List, Some, true, ap, sym, subst, arith}
+use Rattle.std.proofs.lemmas.Bool.{cases_lt, Decides.{nat_tests}}
+use Rattle.rm_base.specs.{Content.{zero_block}, declared.block.{Block.{Block}, Change.{Change}, Row.{Row}}}
+use Rattle.rm_history.specs.{Tree.{IsTree, owner}, World.{creation_of, file_of}, History.{IsHistory}, Evidence.{Evidence, Agrees}}
+use Rattle.rm_history.specs.{Known.{Seen, by_creation, Determined}, FirstGap.{IsTarget, IsDetermined}, declared.world.Datafile.{Datafile}}
+use Rattle.rm_history.{specs.declared.world.World.{World}, proofs.Facts.{told-is-true}}
 use Rattle.rm_retain.proofs.AboveFloor.{Keeps, HasFloorCopy, agrees_kept, kept_above, kept_below}
 
 pub exists_parts : (c s o m : ℕ) → (nat_lt c s && (o == m)) ≡ true → (c < s) × (o ≡ m)

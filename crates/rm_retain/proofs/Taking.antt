@@ -1,17 +1,11 @@
 -- The copies among the pieces at hand, one piece after the other.
 use Rattle.std.proofs.Common.{◌≡◌, ◌<◌, ◌≤◌, ◌+◌, ◌∙◌, ◌⊎◌, ◌==◌, ◌&&◌, ◌||◌, inl, inr, nat_lt, ℕ, List, [], ◌∷◌, ◌++◌, Bool, true, false, cond, refl, ap, sym, subst, arith, map, filter, take, drop, get_or, length, Contains}
-use Rattle.std.proofs.lemmas.Bool.{and_parts, cases_lt, eqb-true, ltb-true, or_cases}
-use Rattle.std.proofs.lemmas.Bool.Decides.{nat_tests}
-use Rattle.std.proofs.lemmas.List.{append-nil, map-append, take-append-drop}
-use Rattle.std.proofs.lemmas.List.Elements.{filter-append}
-use Rattle.rm_base.proofs.Lists.{at_end, front_or_end, take_more}
-use Rattle.rm_base.proofs.Members.{AllPairs-front, AllPairs-last}
+use Rattle.std.proofs.lemmas.Bool.{and_parts, cases_lt, eqb-true, ltb-true, or_cases, Decides.{nat_tests}}
+use Rattle.std.proofs.lemmas.List.{append-nil, map-append, take-append-drop, Elements.{filter-append}}
+use Rattle.rm_base.proofs.{Lists.{at_end, front_or_end, take_more}, Members.{AllPairs-front, AllPairs-last}}
 use Rattle.rm_evidence.proofs.Extending.{only-in, pairs-append}
 use Rattle.rm_piece.specs.declared.piece.Piece.{Piece}
-use Rattle.rm_retain.specs.declared.copies.Backup.{Backup}
-use Rattle.rm_retain.specs.Catalogued.{backup_of}
-use Rattle.rm_retain.specs.Chosen.{Ascend}
-use Rattle.rm_retain.proofs.Ranks.{IsEarlier}
+use Rattle.rm_retain.{specs.{Catalogued.{backup_of}, Chosen.{Ascend}, declared.copies.Backup.{Backup}}, proofs.Ranks.{IsEarlier}}
 
 -- the copies that have a record
 abbrev pub copies_of : List (ℕ × Piece) → List Backup

@@ -1,9 +1,7 @@
 -- A target of the window is one of the incarnation that owns it.
-use Rattle.std.proofs.Common.{◌≡◌, ◌<◌, ◌≤◌, ◌∙◌, inl, inr, ℕ, zero, suc, List, ap, sym, subst, arith, Contains}
-use Rattle.std.proofs.lemmas.Bool.{cases_lt}
+use Rattle.std.proofs.{Common.{◌≡◌, ◌<◌, ◌≤◌, ◌∙◌, inl, inr, ℕ, zero, suc, List, ap, sym, subst, arith, Contains}, lemmas.Bool.{cases_lt}}
 use Rattle.rm_base.proofs.Members.{in-front, behind}
-use Rattle.rm_history.specs.declared.tree.Incarnation.{Incarnation}
-use Rattle.rm_history.specs.Tree.{IsTree, IsThere, owner, parent_of, reset_of, end_of, path}
+use Rattle.rm_history.specs.{Tree.{IsTree, IsThere, owner, parent_of, reset_of, end_of, path}, declared.tree.Incarnation.{Incarnation}}
 use Rattle.rm_history.proofs.Owners.{path-step, owner-first, owner-cases, owner-there, owner-owner, owner-begun}
 use Rattle.rm_retain.specs.Window.{IsTargetOf}
 

@@ -1,39 +1,19 @@
 -- A copy that a record names has each block of its datafile.
+use Rattle.std.specs.{Prelude.{IsSomeAnd}, Option.{option_map, option_map_or}}
 use Rattle.std.proofs.Common.{◌≡◌, ◌≢◌, ◌<◌, ◌∙◌, ◌-◌, map, inl, inr, ℕ, List, length, get_or, slice_get, Option, Some, None, Contains, refl, ap, sym, subst, arith}
-use Rattle.std.specs.Prelude.{IsSomeAnd}
-use Rattle.std.specs.Option.{option_map, option_map_or}
 use Rattle.std.proofs.lemmas.List.Elements.{All-contains, Contains-append_cases, Contains-get_or}
-use Rattle.rm_base.specs.Content.{zero_block}
-use Rattle.rm_base.specs.Store.{Held}
-use Rattle.rm_base.specs.declared.block.Row.{Row}
-use Rattle.rm_base.specs.declared.kinds.Kind.{Kind}
+use Rattle.rm_base.specs.{Content.{zero_block}, Store.{Held}, declared.{block.Row.{Row}, kinds.Kind.{Kind}}}
 use Rattle.rm_base.specs.declared.kinds.Kind.TheVariants.{Full, Level0, Level1, Place}
-use Rattle.rm_catalog.specs.declared.record.DatafileEntry.{DatafileEntry}
-use Rattle.rm_catalog.specs.declared.record.PieceEntry.{PieceEntry}
-use Rattle.rm_catalog.specs.declared.record.Record.{Record}
+use Rattle.rm_catalog.specs.{Keys.{datafile}, Objects.{FitsRows, FitsDatafile, PieceRule}, Rules.{IsCatalog}}
+use Rattle.rm_catalog.specs.declared.record.{DatafileEntry.{DatafileEntry}, PieceEntry.{PieceEntry}, Record.{Record}}
 use Rattle.rm_catalog.specs.declared.record.Record.TheVariants as records
-use Rattle.rm_catalog.specs.Keys.{datafile}
-use Rattle.rm_catalog.specs.Objects.{FitsRows, FitsDatafile, PieceRule}
-use Rattle.rm_catalog.specs.Rules.{IsCatalog}
-use Rattle.rm_evidence.specs.declared.evidence.Evidence.{Evidence}
-use Rattle.rm_evidence.specs.declared.evidence.InPlace.{InPlace}
-use Rattle.rm_evidence.specs.Gathered.{IsGathered, IsPieceAmong, placed, placed_piece}
-use Rattle.rm_evidence.specs.Objects.{IsAsCreated}
-use Rattle.rm_history.specs.declared.world.Datafile.{Datafile}
-use Rattle.rm_history.specs.declared.world.World.{World}
-use Rattle.rm_history.specs.World.{blocks_of}
-use Rattle.rm_evidence.specs.Database.{created_by, database_in, dbid_in, world_of}
-use Rattle.rm_evidence.proofs.Files.{file_of-is}
-use Rattle.rm_evidence.proofs.Found.{obeys}
-use Rattle.rm_evidence.proofs.Parts.{file-at}
-use Rattle.rm_piece.specs.declared.piece.Piece.{Piece}
-use Rattle.rm_piece.specs.declared.set.SetFile.{SetFile}
-use Rattle.rm_piece.specs.Artefacts.{base_of}
-use Rattle.rm_piece.specs.Sets.{IsMember}
-use Rattle.rm_piece.specs.Valid.{IsPiece}
+use Rattle.rm_evidence.specs.{Gathered.{IsGathered, IsPieceAmong, placed, placed_piece}, Objects.{IsAsCreated}}
+use Rattle.rm_evidence.specs.{Database.{created_by, database_in, dbid_in, world_of}, declared.evidence.Evidence.{Evidence}}
+use Rattle.rm_evidence.{specs.declared.evidence.InPlace.{InPlace}, proofs.{Files.{file_of-is}, Found.{obeys}, Parts.{file-at}}}
+use Rattle.rm_history.specs.{World.{blocks_of}, declared.world.{Datafile.{Datafile}, World.{World}}}
+use Rattle.rm_piece.specs.{Artefacts.{base_of}, Sets.{IsMember}, Valid.{IsPiece}, declared.{piece.Piece.{Piece}, set.SetFile.{SetFile}}}
 use Rattle.rm_piece.proofs.Whole.{full, placed as rows_placed}
-use Rattle.rm_retain.specs.Losing.{IsWhole}
-use Rattle.rm_retain.proofs.Clearing.{piece_valid, placed_number}
+use Rattle.rm_retain.{specs.Losing.{IsWhole}, proofs.Clearing.{piece_valid, placed_number}}
 
 entry_all : (k : Kind) (rows blocks : ℕ) → k ≢ Level1 → FitsRows k rows blocks → rows ≡ blocks
 entry_all Full rows blocks other fits = fits

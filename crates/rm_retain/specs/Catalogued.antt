@@ -1,17 +1,11 @@
 -- Retention by the records of a catalog and the evidence at hand.
 use Rattle.std.specs.Prelude.{ℕ, ◌≡◌, ◌↔◌, nat_lt, List, map, filter, Contains}
 use Rattle.rm_base.specs.declared.kinds.Policy.{Policy}
-use Rattle.rm_catalog.specs.declared.record.PieceEntry.{PieceEntry}
-use Rattle.rm_catalog.specs.declared.record.Record.{Record}
-use Rattle.rm_catalog.specs.declared.record.Record.TheVariants.{Log, Piece, Set}
-use Rattle.rm_catalog.specs.declared.record.SetEntry.{SetEntry}
-use Rattle.rm_catalog.specs.Keys.{key_of, part_piece}
-use Rattle.rm_evidence.specs.declared.evidence.Evidence.{Evidence}
-use Rattle.rm_evidence.specs.Database.{current_in, world_of}
+use Rattle.rm_catalog.specs.{Keys.{key_of, part_piece}, declared.record.{PieceEntry.{PieceEntry}, Record.{Record}}}
+use Rattle.rm_catalog.specs.declared.record.{Record.TheVariants.{Log, Piece, Set}, SetEntry.{SetEntry}}
+use Rattle.rm_evidence.specs.{Database.{current_in, world_of}, declared.evidence.Evidence.{Evidence}}
 use Rattle.rm_piece.specs.declared.piece as artefact
-use Rattle.rm_retain.specs.declared.copies.Backup.{Backup}
-use Rattle.rm_retain.specs.Chosen.{Retention}
-use Rattle.rm_retain.specs.Obsolete.{IsObsoleteBackup, IsObsoleteLog, IsObsoleteSet}
+use Rattle.rm_retain.specs.{Chosen.{Retention}, Obsolete.{IsObsoleteBackup, IsObsoleteLog, IsObsoleteSet}, declared.copies.Backup.{Backup}}
 
 -- a piece at hand, as its record describes it
 abbrev pub backup_of : (ℕ × artefact.Piece.Piece) → Backup

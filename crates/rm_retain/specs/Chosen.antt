@@ -1,12 +1,8 @@
 -- Which copies of a datafile the policy chooses, and the floor of the datafile.
 use Rattle.std.specs.Prelude.{ℕ, ◌≡◌, ◌<◌, ◌⊎◌, ◌+◌, ◌==◌, ◌&&◌, ◌||◌, nat_le, nat_lt, not, Bool, true, Option, Some, None, List, map, filter, find, count_by, AllPairs, Contains}
 use Rattle.std.specs.Option.{option_map_or}
-use Rattle.rm_base.specs.declared.kinds.Policy.{Policy}
-use Rattle.rm_base.specs.declared.kinds.Policy.TheVariants.{Window, Redundancy, Nothing}
-use Rattle.rm_history.specs.declared.tree.Incarnation.{Incarnation}
-use Rattle.rm_history.specs.declared.world.World.{World}
-use Rattle.rm_history.specs.Tree.{is_within}
-use Rattle.rm_history.specs.World.{creation_of}
+use Rattle.rm_base.specs.declared.kinds.Policy.{Policy, TheVariants.{Window, Redundancy, Nothing}}
+use Rattle.rm_history.specs.{Tree.{is_within}, World.{creation_of}, declared.{tree.Incarnation.{Incarnation}, world.World.{World}}}
 use Rattle.rm_retain.specs.declared.copies.Backup.{Backup}
 
 -- What retention goes by: the database and its current incarnation, the policy and the SCN at which its

@@ -1,14 +1,10 @@
 -- The records and the objects before and after obsolete records went.
 use Rattle.std.specs.Prelude.{◌≡◌, ◌⊎◌, List, Contains}
 use Rattle.rm_base.specs.Store.{Held}
-use Rattle.rm_catalog.specs.declared.record.LogEntry.{LogEntry}
-use Rattle.rm_catalog.specs.declared.record.PieceEntry.{PieceEntry}
-use Rattle.rm_catalog.specs.declared.record.Record.{Record}
-use Rattle.rm_catalog.specs.declared.record.Record.TheVariants as records
+use Rattle.rm_catalog.specs.declared.record.{LogEntry.{LogEntry}, PieceEntry.{PieceEntry}, Record.{Record, TheVariants as records}}
 use Rattle.rm_catalog.specs.declared.record.SetEntry.{SetEntry}
 use Rattle.rm_evidence.specs.Names.{log_name, piece_name, set_name}
-use Rattle.rm_retain.specs.Chosen.{Retention}
-use Rattle.rm_retain.specs.Catalogued.{IsObsoleteRecord}
+use Rattle.rm_retain.specs.{Chosen.{Retention}, Catalogued.{IsObsoleteRecord}}
 
 -- no record is new, only obsolete ones went, and each object of those that are left stands as before
 pub record IsCleared (r : Retention) (rs left : List Record) (held now : Held) : Type 0 where

@@ -1,14 +1,8 @@
 -- A database of which a backup and a log fall out of the window.
 use Rattle.std.specs.Prelude.{ℕ, List, [], ◌∷◌}
-use Rattle.rm_base.specs.Content.{padded}
-use Rattle.rm_base.specs.declared.block.Change.{Change}
-use Rattle.rm_base.specs.declared.block.Row.{Row}
-use Rattle.rm_base.specs.declared.kinds.Policy.TheVariants.{Window}
-use Rattle.rm_history.specs.declared.world.World.{World}
-use Rattle.rm_history.specs.Artefacts.{Base, Log}
-use Rattle.rm_history.specs.Evidence.{Evidence}
-use Rattle.rm_retain.specs.declared.copies.Backup.{Backup}
-use Rattle.rm_retain.specs.Chosen.{Retention}
+use Rattle.rm_base.specs.{Content.{padded}, declared.{block.{Change.{Change}, Row.{Row}}, kinds.Policy.TheVariants.{Window}}}
+use Rattle.rm_history.specs.{Artefacts.{Base, Log}, Evidence.{Evidence}, declared.world.World.{World}}
+use Rattle.rm_retain.specs.{Chosen.{Retention}, declared.copies.Backup.{Backup}}
 
 -- one incarnation from SCN 1 to 5, one thread, and a file of one block, created at 1
 abbrev pub world : World

@@ -1,18 +1,9 @@
 -- The evidence before and after needless records went.
 use Rattle.std.specs.Prelude.{ℕ, ◌≡◌, ◌<◌, ◌≤◌, ◌⊎◌, List, Contains}
-use Rattle.rm_base.specs.Numbers.{last_scn}
-use Rattle.rm_base.specs.declared.block.Change.{Change}
-use Rattle.rm_base.specs.declared.block.Row.{Row}
-use Rattle.rm_history.specs.declared.world.World.{World}
-use Rattle.rm_history.specs.Artefacts.{Base, Level1, Log, high_of}
-use Rattle.rm_history.specs.History.{IsHistory}
-use Rattle.rm_history.specs.Tree.{IsThere, end_of}
-use Rattle.rm_history.specs.World.{blocks_of}
-use Rattle.rm_history.specs.Evidence.{Evidence, Agrees}
-use Rattle.rm_history.specs.Unknown.{IsWorld}
-use Rattle.rm_retain.specs.declared.copies.Backup.{Backup}
-use Rattle.rm_retain.specs.Chosen.{Retention}
-use Rattle.rm_retain.specs.Obsolete.{IsNeedlessBackup, IsNeedlessLog}
+use Rattle.rm_base.specs.{Numbers.{last_scn}, declared.block.{Change.{Change}, Row.{Row}}}
+use Rattle.rm_history.specs.{Artefacts.{Base, Level1, Log, high_of}, History.{IsHistory}, Tree.{IsThere, end_of}, World.{blocks_of}}
+use Rattle.rm_history.specs.{Evidence.{Evidence, Agrees}, Unknown.{IsWorld}, declared.world.World.{World}}
+use Rattle.rm_retain.specs.{Chosen.{Retention}, Obsolete.{IsNeedlessBackup, IsNeedlessLog}, declared.copies.Backup.{Backup}}
 
 -- the record describes a backup of incarnation j and datafile f, with checkpoint c and these rows
 pub record Describes (x : Backup) (j f c : ℕ) (rows : List Row) : Type 0 where

@@ -1,15 +1,10 @@
 -- What the policy needs of each datafile on the current path, and whether it needs a record.
-use Rattle.std.specs.Prelude.{ℕ, ◌≡◌, ◌<◌, ◌==◌, ◌&&◌, ◌||◌, nat_lt, Bool, List, map, Contains}
-use Rattle.std.specs.List.{list_any}
-use Rattle.rm_catalog.specs.declared.record.Record.{Record}
-use Rattle.rm_catalog.specs.Trees.{nodes}
+use Rattle.std.specs.{Prelude.{ℕ, ◌≡◌, ◌<◌, ◌==◌, ◌&&◌, ◌||◌, nat_lt, Bool, List, map, Contains}, List.{list_any}}
+use Rattle.rm_catalog.specs.{Trees.{nodes}, declared.record.Record.{Record}}
 use Rattle.rm_history.specs.Tree.{IsThere}
 use Rattle.rm_evidence.specs.Database.{current_in}
-use Rattle.rm_retain.specs.declared.file_need.FileNeed.{FileNeed}
-use Rattle.rm_retain.specs.declared.needs.Needs.{Needs}
-use Rattle.rm_retain.specs.Catalogued.{on_copies}
-use Rattle.rm_retain.specs.Chosen.{Retention, chosen, floor}
-use Rattle.rm_retain.specs.Obsolete.{IsOnPath}
+use Rattle.rm_retain.specs.{Catalogued.{on_copies}, Chosen.{Retention, chosen, floor}, Obsolete.{IsOnPath}}
+use Rattle.rm_retain.specs.declared.{file_need.FileNeed.{FileNeed}, needs.Needs.{Needs}}
 
 -- what retention needs of a datafile
 pub record IsFileNeed (r : Retention) (f : ℕ) (x : FileNeed) : Type 0 where

@@ -1,12 +1,9 @@
 -- Which records the policy does not need.
 use Rattle.std.specs.Prelude.{ℕ, List, ◌≡◌, ◌≢◌, ◌≤◌, min, All, Bool, true, false, Some}
 use Rattle.rm_base.specs.declared.kinds.Policy.TheVariants.{Nothing}
-use Rattle.rm_history.specs.declared.tree.Incarnation.{Incarnation}
+use Rattle.rm_history.specs.{Tree.{IsShared, end_of}, World.{file_of, exists}, declared.tree.Incarnation.{Incarnation}}
 use Rattle.rm_history.specs.declared.world.Datafile.{Datafile}
-use Rattle.rm_history.specs.Tree.{IsShared, end_of}
-use Rattle.rm_history.specs.World.{file_of, exists}
-use Rattle.rm_retain.specs.declared.copies.Backup.{Backup}
-use Rattle.rm_retain.specs.Chosen.{Retention, IsChosen, floor}
+use Rattle.rm_retain.specs.{Chosen.{Retention, IsChosen, floor}, declared.copies.Backup.{Backup}}
 
 -- The clip of what incarnation inc tells below `high`: `high` itself on the current incarnation, else
 -- the lesser of it and the SCN at which the path of inc leaves the current one.

@@ -1,8 +1,6 @@
 -- Retention by the copies that remain.
 use Rattle.std.specs.Prelude.{◌⊎◌, List, Contains}
-use Rattle.rm_retain.specs.declared.copies.Backup.{Backup}
-use Rattle.rm_retain.specs.Chosen.{Retention, Ascend}
-use Rattle.rm_retain.specs.Obsolete.{IsNeedlessBackup}
+use Rattle.rm_retain.specs.{Chosen.{Retention, Ascend}, Obsolete.{IsNeedlessBackup}, declared.copies.Backup.{Backup}}
 
 -- retention by other copies
 abbrev pub with_copies : Retention → List Backup → Retention

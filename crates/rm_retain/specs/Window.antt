@@ -1,9 +1,7 @@
 -- Where a recovery window starts, and its targets.
-use Rattle.std.specs.Prelude.{ℕ, ◌≡◌, ◌<◌, ◌≤◌, ◌+◌, ◌*◌, ◌&&◌, nat_le, Bool, Option, List, find, reverse}
-use Rattle.std.specs.Option.{option_map, option_or}
+use Rattle.std.specs.{Prelude.{ℕ, ◌≡◌, ◌<◌, ◌≤◌, ◌+◌, ◌*◌, ◌&&◌, nat_le, Bool, Option, List, find, reverse}, Option.{option_map, option_or}}
 use Rattle.rm_base.specs.declared.block.Mark.{Mark}
-use Rattle.rm_history.specs.declared.tree.Incarnation.{Incarnation}
-use Rattle.rm_history.specs.Tree.{IsThere, IsProperAncestor, owner, end_of, reset_of, is_within}
+use Rattle.rm_history.specs.{Tree.{IsThere, IsProperAncestor, owner, end_of, reset_of, is_within}, declared.tree.Incarnation.{Incarnation}}
 use Rattle.rm_retain.specs.Chosen.{Retention}
 
 -- the mark is on the current path

@@ -1,15 +1,11 @@
 //! Which records the policy does not need.
-ghost use Rattle.std.specs.Prelude.{◌≡◌, ◌≢◌, ◌<◌, ◌↔◌, ◌==◌, ℕ, false, All, AllPairs, Contains, IfOk, IsTrue};
-ghost use Rattle.std.specs.List.{list_any};
+ghost use Rattle.std.specs.{Prelude.{◌≡◌, ◌≢◌, ◌<◌, ◌↔◌, ◌==◌, ℕ, false, All, AllPairs, Contains, IfOk, IsTrue}, List.{list_any}};
 ghost use Rattle.rm_base.specs.declared.kinds.Policy.TheVariants.{Nothing as OfNothing};
-ghost use Rattle.rm_catalog.specs.Keys.{part_piece};
-ghost use Rattle.rm_catalog.specs.Rules.{HasDatabase};
-ghost use Rattle.rm_catalog.specs.Trees.{nodes};
+ghost use Rattle.rm_catalog.specs.{Keys.{part_piece}, Rules.{HasDatabase}, Trees.{nodes}};
 ghost use Rattle.rm_evidence.specs.Taking.{HasIncarnation};
 ghost use Rattle.rm_history.specs.Tree.{IsThere};
 ghost use Rattle.rm_retain.specs.Catalogued.{backup_in, backups_of, by_records, copies_in, AreObsolete, IsObsoleteRecord};
-ghost use Rattle.rm_retain.specs.Chosen.{Ascend};
-ghost use Rattle.rm_retain.specs.Needs.{needed_by, needs_backup, needs_clip, AreNeeds};
+ghost use Rattle.rm_retain.specs.{Chosen.{Ascend}, Needs.{needed_by, needs_backup, needs_clip, AreNeeds}};
 ghost use Rattle.rm_retain.specs.Obsolete.{IsClip, IsNeedlessBackup, IsObsoleteBackup, IsObsoleteLog, IsObsoleteSet};
 
 use crate::copies::Backup;

@@ -1,33 +1,16 @@
 //! Why no target of the window is lost with the records that the policy does not need.
 ghost use Rattle.std.specs.Prelude.{ℕ, ◌≡◌, ◌≤◌, List, [], ◌∷◌};
-ghost use Rattle.rm_base.specs.Content.{padded};
-ghost use Rattle.rm_base.specs.declared.block.Block.{Block};
-ghost use Rattle.rm_base.specs.declared.block.Change.{Change};
-ghost use Rattle.rm_base.specs.declared.kinds.Policy.{Policy};
+ghost use Rattle.rm_base.specs.{Content.{padded}, Store.{Held}, declared.{block.{Block.{Block}, Change.{Change}}, kinds.Policy.{Policy}}};
 ghost use Rattle.rm_base.specs.declared.kinds.Policy.TheVariants.{Window};
-ghost use Rattle.rm_base.specs.Store.{Held};
-ghost use Rattle.rm_catalog.specs.declared.record.Record.{Record};
-ghost use Rattle.rm_catalog.specs.Rules.{HasDatabase, IsCatalog};
-ghost use Rattle.rm_catalog.specs.Trees.{nodes};
-ghost use Rattle.rm_evidence.specs.declared.evidence.Evidence.{Evidence as Gathered};
-ghost use Rattle.rm_evidence.specs.declared.evidence.InPlace.{InPlace};
-ghost use Rattle.rm_evidence.specs.Gathered.{IsGathered};
-ghost use Rattle.rm_evidence.specs.Known.{known_of};
-ghost use Rattle.rm_history.specs.History.{IsHistory};
-ghost use Rattle.rm_history.specs.Tree.{reset_of};
-ghost use Rattle.rm_history.specs.Evidence.{Evidence, Agrees};
-ghost use Rattle.rm_history.specs.Known.{Determined};
+ghost use Rattle.rm_catalog.specs.{Rules.{HasDatabase, IsCatalog}, Trees.{nodes}, declared.record.Record.{Record}};
+ghost use Rattle.rm_evidence.specs.{Gathered.{IsGathered}, Known.{known_of}, Database.{current_in, database_in, world_of}};
+ghost use Rattle.rm_evidence.specs.declared.evidence.{Evidence.{Evidence as Gathered}, InPlace.{InPlace}};
+ghost use Rattle.rm_history.specs.{History.{IsHistory}, Tree.{reset_of}, Evidence.{Evidence, Agrees}, Known.{Determined}};
 ghost use Rattle.rm_history.specs.FirstGap.{IsTarget, IsDetermined, IsRecoverable};
-ghost use Rattle.rm_evidence.specs.Database.{current_in, database_in, world_of};
-ghost use Rattle.rm_retain.specs.Catalogued.{by_records, IsObsoleteRecord};
-ghost use Rattle.rm_retain.specs.Chosen.{Retention, IsChosen, floor};
-ghost use Rattle.rm_retain.specs.Cleared.{IsCleared};
-ghost use Rattle.rm_retain.specs.declared.copies.Backup.{Backup};
+ghost use Rattle.rm_retain.specs.{Catalogued.{by_records, IsObsoleteRecord}, Chosen.{Retention, IsChosen, floor}, Cleared.{IsCleared}};
 ghost use Rattle.rm_retain.specs.Example.{world, history, second, late, before, after, backup, window};
-ghost use Rattle.rm_retain.specs.Losing.{FitsHistory, LosesNeedless};
-ghost use Rattle.rm_retain.specs.Obsolete.{IsOnPath, IsNeedlessBackup, IsNeedlessLog};
-ghost use Rattle.rm_retain.specs.Remaining.{AreRemaining, with_copies};
-ghost use Rattle.rm_retain.specs.Window.{IsInWindow, IsTargetOf};
+ghost use Rattle.rm_retain.specs.{Losing.{FitsHistory, LosesNeedless}, Obsolete.{IsOnPath, IsNeedlessBackup, IsNeedlessLog}};
+ghost use Rattle.rm_retain.specs.{Remaining.{AreRemaining, with_copies}, Window.{IsInWindow, IsTargetOf}, declared.copies.Backup.{Backup}};
 
 /// Whatever the evidence tells of a block at a target of the window, it tells when needless records are
 /// gone: a target that was recoverable stays so.

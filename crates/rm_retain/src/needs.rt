@@ -1,15 +1,12 @@
 //! What the policy needs of each datafile on the current path.
 ghost use Rattle.std.specs.Prelude.{◌≡◌, ◌<◌, ◌↔◌, ◌&&◌, ◌||◌, ◌==◌, AllPairs, IfOk, IfSome, IfNone, IsTrue, map, nat_lt};
 ghost use Rattle.std.specs.Option.{option_map_or};
-ghost use Rattle.rm_catalog.specs.Rules.{HasDatabase};
-ghost use Rattle.rm_catalog.specs.Trees.{nodes};
-ghost use Rattle.rm_history.specs.Tree.{IsThere, end_of};
-ghost use Rattle.rm_history.specs.World.{exists, creation_of};
+ghost use Rattle.rm_catalog.specs.{Rules.{HasDatabase}, Trees.{nodes}};
+ghost use Rattle.rm_history.specs.{Tree.{IsThere, end_of}, World.{exists, creation_of}};
 ghost use Rattle.rm_evidence.specs.Database.{world_of};
 ghost use Rattle.rm_retain.specs.Catalogued.{backup_of, by_records, copies_in, on_copies};
 ghost use Rattle.rm_retain.specs.Chosen.{nth_newest, wanted, chosen as chosen_of, Ascend, AscendById};
-ghost use Rattle.rm_retain.specs.Needs.{AreFileNeeds, AreNeeds, HaveFileNeeds, IsFileNeed, needed_by};
-ghost use Rattle.rm_retain.specs.Obsolete.{IsOnPath};
+ghost use Rattle.rm_retain.specs.{Needs.{AreFileNeeds, AreNeeds, HaveFileNeeds, IsFileNeed, needed_by}, Obsolete.{IsOnPath}};
 
 use crate::copies::{Backup, candidates, newest_ids, nth_newest, wanted};
 use crate::file_need::FileNeed;

@@ -1,16 +1,12 @@
 -- Parts that are added one after another.
-use Rattle.std.proofs.Common.{◌≡◌, ◌<◌, ◌≤◌, ◌+◌, ◌-◌, ◌∙◌, ◌++◌, ◌&&◌, not, ℕ, suc, List, [], ◌∷◌, Option, Bool, true, false, cond, refl, ap, sym, arith, append-nil, append_assoc, drop, drop-cons, get_or, length, slice_get}
 use Rattle.std.specs.Option.{option_map_or}
-use Rattle.std.proofs.lemmas.List.{drop_all}
-use Rattle.std.proofs.lemmas.Option.{slice_get-get_or}
+use Rattle.std.proofs.Common.{◌≡◌, ◌<◌, ◌≤◌, ◌+◌, ◌-◌, ◌∙◌, ◌++◌, ◌&&◌, not, ℕ, suc, List, [], ◌∷◌, Option, Bool, true, false, cond, refl, ap, sym, arith, append-nil, append_assoc, drop, drop-cons, get_or, length, slice_get}
+use Rattle.std.proofs.lemmas.{List.{drop_all}, Option.{slice_get-get_or}}
 use Rattle.rm_catalog.specs.declared.record.PartEntry.{PartEntry}
 use Rattle.rm_commit.specs.declared.commit.Object.{Object}
-use Rattle.rm_machine.specs.declared.state.State.{State}
-use Rattle.rm_machine.specs.Saving.{SitePart, entry_of, log_parts, object_of, with_ids}
-use Rattle.rm_redo.specs.declared.online.ThreadLog.{ThreadLog}
-use Rattle.rm_redo.specs.Online.{lost_log}
-use Rattle.rm_session.specs.declared.site_parts.Parts.{Parts}
-use Rattle.rm_session.specs.Adding.{no_parts, part_of_thread, with_part, with_parts}
+use Rattle.rm_machine.specs.{Saving.{SitePart, entry_of, log_parts, object_of, with_ids}, declared.state.State.{State}}
+use Rattle.rm_redo.specs.{Online.{lost_log}, declared.online.ThreadLog.{ThreadLog}}
+use Rattle.rm_session.specs.{Adding.{no_parts, part_of_thread, with_part, with_parts}, declared.site_parts.Parts.{Parts}}
 
 -- Many parts at once
 

@@ -1,29 +1,16 @@
 -- A part that is good is the artefact that was saved.
 use Rattle.std.proofs.Common.{◌≡◌, ◌<◌, ◌∙◌, ◌==◌, ◌&&◌, inl, inr, ℕ, List, Some, None, Bool, true, sym, subst, arith, Contains, find}
 use Rattle.std.proofs.lemmas.Bool.{and_parts, eqb-true}
-use Rattle.rm_base.specs.Store.{Held}
-use Rattle.rm_base.specs.declared.block.Change.{Change}
-use Rattle.rm_base.proofs.Lists.{find_cases}
+use Rattle.rm_base.{specs.{Store.{Held}, declared.block.Change.{Change}}, proofs.Lists.{find_cases}}
 use Rattle.rm_catalog.specs.declared.record.PartEntry.{PartEntry}
-use Rattle.rm_history.specs.Agrees.{BaseAgrees, LogAgrees}
-use Rattle.rm_history.specs.declared.world.Datafile.{Datafile}
-use Rattle.rm_catalog_typed.specs.Ledger.{Ledger}
-use Rattle.rm_piece.specs.declared.piece.Piece.{Piece}
-use Rattle.rm_piece.specs.Artefacts.{base_of}
-use Rattle.rm_piece.specs.Spelling as piece_format
-use Rattle.rm_piece.specs.Valid.{IsPiece}
+use Rattle.rm_history.specs.{Agrees.{BaseAgrees, LogAgrees}, declared.world.Datafile.{Datafile}}
+use Rattle.rm_catalog_typed.specs.{Ledger.{Ledger}, TypedCatalog.{Saved}, Worlds.{world_of}}
+use Rattle.rm_piece.specs.{Spelling as piece_format, Artefacts.{base_of}, Valid.{IsPiece}, declared.piece.Piece.{Piece}}
 use Rattle.rm_piece.proofs.Fitting.{spelling_same as piece_same}
-use Rattle.rm_redo.specs.declared.log_file.LogFile.{LogFile}
-use Rattle.rm_redo.specs.LogFile.{log_of}
-use Rattle.rm_redo.specs.LogFormat as log_format
-use Rattle.rm_redo.specs.LogFormat.{IsLogFile}
+use Rattle.rm_redo.specs.{LogFormat as log_format, LogFile.{log_of}, LogFormat.{IsLogFile}, declared.log_file.LogFile.{LogFile}}
 use Rattle.rm_redo.proofs.LogFitting.{spelling_same as log_same}
-use Rattle.rm_catalog_typed.specs.TypedCatalog.{Saved}
-use Rattle.rm_machine.specs.Effect.{Artefact, Made, a_log, a_piece, a_set}
-use Rattle.rm_machine.specs.Machine.{IsTrueArtefact, PieceAgrees}
-use Rattle.rm_machine.specs.Rest.{HasPartArtefact, PartsTellFor}
-use Rattle.rm_machine.specs.Saved.{HasPart, IsGoodFile, IsGoodLog, IsOfPart, spelling_of}
-use Rattle.rm_catalog_typed.specs.Worlds.{world_of}
+use Rattle.rm_machine.specs.{Effect.{Artefact, Made, a_log, a_piece, a_set}, Machine.{IsTrueArtefact, PieceAgrees}}
+use Rattle.rm_machine.specs.{Rest.{HasPartArtefact, PartsTellFor}, Saved.{HasPart, IsGoodFile, IsGoodLog, IsOfPart, spelling_of}}
 
 -- what a search finds is there, and passes
 pub found : {X : Type 0} (p : X → Bool) (xs : List X) (x : X) → find p xs ≡ Some x → Contains xs x × (p x ≡ true)

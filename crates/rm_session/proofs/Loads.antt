@@ -1,19 +1,12 @@
 -- What is loaded by a catalog: of its saved site, or else nothing.
 use Rattle.std.proofs.Common.{◌≡◌, ◌<◌, ◌+◌, ◌^◌, ◌∙◌, ◌&&◌, not, ℕ, zero, suc, List, [], Option, Some, None, IfSome, true, false, refl, sym, ap, subst, arith, length, replicate, get_or, slice_get}
-use Rattle.std.proofs.lemmas.List.{length-replicate}
-use Rattle.std.proofs.lemmas.Option.{same_Some, slice_get-get_or, slice_get_within}
+use Rattle.std.proofs.lemmas.{List.{length-replicate}, Option.{same_Some, slice_get-get_or, slice_get_within}}
 use Rattle.rm_base.specs.Store.{Held}
 use Rattle.rm_blocks.specs.File.{File}
-use Rattle.rm_catalog_typed.specs.Ledger.{Ledger}
-use Rattle.rm_machine.specs.Loading.{IsLoadedBy, lost_instance, online_of}
-use Rattle.rm_machine.specs.Sound.{IsSound}
-use Rattle.rm_machine.specs.declared.state.Instance.{Instance}
-use Rattle.rm_machine.specs.declared.state.State.{State}
-use Rattle.rm_machine.specs.State.{has_lost, ledger}
-use Rattle.rm_machine.specs.Tracked.{first_tracker}
+use Rattle.rm_catalog_typed.specs.{Ledger.{Ledger}, Facts.{IsTypedCatalog}, TypedCatalog.{Saved}}
+use Rattle.rm_machine.specs.{Loading.{IsLoadedBy, lost_instance, online_of}, Sound.{IsSound}, State.{has_lost, ledger}}
+use Rattle.rm_machine.specs.{Tracked.{first_tracker}, declared.state.{Instance.{Instance}, State.{State}}}
 use Rattle.rm_redo.specs.declared.log_file.LogFile.{LogFile}
-use Rattle.rm_catalog_typed.specs.Facts.{IsTypedCatalog}
-use Rattle.rm_catalog_typed.specs.TypedCatalog.{Saved}
 use Rattle.rm_session.specs.Fit.{AllAt, IsFit, IsFitBy, IsFitFile, IsFitLog, IsHad, IsHadBy, IsLoadedAt, IsLogAt, IsPointBy, StandNow, with_point}
 use Rattle.rm_session.proofs.Sounds.{sound-fit, stand-now}
 

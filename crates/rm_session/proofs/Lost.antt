@@ -1,23 +1,16 @@
 -- Where all is lost, nothing is told.
-use Rattle.std.proofs.Common.{◌≡◌, ◌<◌, ◌-◌, ◌∙◌, ℕ, zero, suc, List, [], ◌∷◌, Bool, Option, Some, None, true, false, refl, ap, sym, subst, All, map, replicate, slice_get, slice_index_or}
 use Rattle.std.specs.Option.{option_map_or}
-use Rattle.std.proofs.lemmas.Bool.{false≢true}
-use Rattle.std.proofs.lemmas.Option.{none-some}
+use Rattle.std.proofs.Common.{◌≡◌, ◌<◌, ◌-◌, ◌∙◌, ℕ, zero, suc, List, [], ◌∷◌, Bool, Option, Some, None, true, false, refl, ap, sym, subst, All, map, replicate, slice_get, slice_index_or}
+use Rattle.std.proofs.lemmas.{Bool.{false≢true}, Option.{none-some}}
 use Rattle.rm_base.specs.declared.block.Change.{Change}
 use Rattle.rm_blocks.specs.File.{File}
-use Rattle.rm_history.specs.History.{IsHistory}
-use Rattle.rm_history.specs.Tree.{end_of}
+use Rattle.rm_history.specs.{History.{IsHistory}, Tree.{end_of}}
 use Rattle.rm_catalog_typed.specs.Switches.{enabled_at}
 use Rattle.rm_track.specs.Told.{Tell}
-use Rattle.rm_redo.specs.declared.online.ThreadLog.{ThreadLog}
-use Rattle.rm_redo.specs.Logs.{Logs}
-use Rattle.rm_redo.specs.Online.{IsThread, has_log, log_where, lost_log, lost_logs}
-use Rattle.rm_machine.specs.declared.state.Instance.{Instance}
-use Rattle.rm_machine.specs.Loading.{lost_instance}
-use Rattle.rm_machine.specs.Machine.{HistoryFits}
-use Rattle.rm_machine.specs.declared.state.State.{State}
-use Rattle.rm_machine.specs.State.{current_of, ledger, now_of, tree, world, is_lost, placed}
-use Rattle.rm_machine.proofs.FirstTold.{tell-none}
+use Rattle.rm_redo.specs.{Logs.{Logs}, Online.{IsThread, has_log, log_where, lost_log, lost_logs}, declared.online.ThreadLog.{ThreadLog}}
+use Rattle.rm_machine.specs.{Loading.{lost_instance}, Machine.{HistoryFits}}
+use Rattle.rm_machine.specs.{State.{current_of, ledger, now_of, tree, world, is_lost, placed}, declared.state.Instance.{Instance}}
+use Rattle.rm_machine.{specs.declared.state.State.{State}, proofs.FirstTold.{tell-none}}
 
 -- n places with nothing there
 abbrev empty : ℕ → List (Option File)

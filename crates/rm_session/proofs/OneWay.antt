@@ -1,22 +1,16 @@
 -- What runs is loaded in one way.
-use Rattle.std.proofs.Common.{◌≡◌, List, ◌+◌, ◌∙◌, ◌&&◌, not, ℕ, Option, Some, None, Bool, true, false, cond, ap, sym, subst, arith, zero, suc, [], ◌∷◌, refl, length, slice_get, slice_index_or}
 use Rattle.std.specs.Option.{option_map}
+use Rattle.std.proofs.Common.{◌≡◌, List, ◌+◌, ◌∙◌, ◌&&◌, not, ℕ, Option, Some, None, Bool, true, false, cond, ap, sym, subst, arith, zero, suc, [], ◌∷◌, refl, length, slice_get, slice_index_or}
 use Rattle.std.proofs.lemmas.Option.{slice_get_within}
 use Rattle.rm_base.specs.Store.{Held}
 use Rattle.rm_blocks.specs.File.{File}
 use Rattle.rm_catalog.specs.declared.record.HeadEntry.{HeadEntry}
 use Rattle.rm_history.specs.declared.world.Datafile.{Datafile}
-use Rattle.rm_catalog_typed.proofs.Lookups.{item-at}
+use Rattle.rm_catalog_typed.{specs.TypedCatalog.{TypedCatalog, Saved}, proofs.Lookups.{item-at}}
 use Rattle.rm_redo.specs.Logs.{Logs}
-use Rattle.rm_catalog_typed.specs.TypedCatalog.{TypedCatalog, Saved}
 use Rattle.rm_machine.specs.Loading.{AreLoadedLogs, IsHeadPoint, IsLoaded, IsLoadedBy, IsLoadedFile, IsLoadedOf, IsLoadedPoint, IsTheOne, file_in, online_of}
-use Rattle.rm_machine.specs.Mount.{mount_point}
-use Rattle.rm_machine.specs.Saved.{IsGoodFile, IsGoodLog}
-use Rattle.rm_machine.specs.Sound.{StandsAt}
-use Rattle.rm_machine.specs.Tracked.{first_tracker}
-use Rattle.rm_machine.specs.declared.state.Instance.{Instance}
-use Rattle.rm_machine.specs.declared.state.State.{State}
-use Rattle.rm_machine.specs.State.{has_lost}
+use Rattle.rm_machine.specs.{Mount.{mount_point}, Saved.{IsGoodFile, IsGoodLog}, Sound.{StandsAt}, Tracked.{first_tracker}}
+use Rattle.rm_machine.specs.{State.{has_lost}, declared.state.{Instance.{Instance}, State.{State}}}
 use Rattle.rm_session.proofs.Goods.{file-one, log-one}
 
 -- where no two are so, there is one, or none

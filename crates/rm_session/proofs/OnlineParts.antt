@@ -1,25 +1,13 @@
 -- The online logs that parts tell.
+use Rattle.std.specs.{List.{zip}, Option.{option_map, option_map_or}}
 use Rattle.std.proofs.Common.{◌≡◌, ◌<◌, ◌≤◌, ◌+◌, ◌-◌, ◌∙◌, ◌==◌, inl, inr, ℕ, zero, suc, List, [], ◌∷◌, Option, Some, None, Bool, true, false, cond, refl, ap, sym, subst, arith, length, map, All, slice_get}
-use Rattle.std.specs.List.{zip}
-use Rattle.std.specs.Option.{option_map, option_map_or}
-use Rattle.std.proofs.lemmas.Bool.{cases_Bool, eqb-true}
-use Rattle.std.proofs.lemmas.List.{length-map}
-use Rattle.std.proofs.lemmas.List.Elements.{All-map}
-use Rattle.std.proofs.lemmas.Option.{same_Some, slice_get-map}
+use Rattle.std.proofs.lemmas.{Bool.{cases_Bool, eqb-true}, List.{length-map, Elements.{All-map}}, Option.{same_Some, slice_get-map}}
 use Rattle.std.proofs.lemmas.Slice.Zip.{length-zip}
 use Rattle.rm_history.specs.Tree.{end_of}
-use Rattle.rm_catalog_typed.specs.Ledger.{Ledger}
-use Rattle.rm_catalog_typed.specs.Switches.{enabled_at, is_enabled_in}
-use Rattle.rm_catalog_typed.proofs.Lookups.{item-at}
-use Rattle.rm_redo.specs.declared.log_file.LogFile.{LogFile}
-use Rattle.rm_redo.specs.declared.online.ThreadLog.{ThreadLog}
-use Rattle.rm_redo.specs.LogFile.{log_file_of}
-use Rattle.rm_redo.specs.Logs.{Logs}
-use Rattle.rm_redo.specs.Online.{IsThread, has_log, thread_log, thread_logs, told_log}
-use Rattle.rm_machine.specs.Loading.{inc_of_first, online_of, where_of}
-use Rattle.rm_machine.specs.Saved.{FitsOnline}
-use Rattle.rm_machine.specs.Sound.{IsGone}
-use Rattle.rm_machine.specs.State.{is_lost}
+use Rattle.rm_catalog_typed.{specs.{Ledger.{Ledger}, Switches.{enabled_at, is_enabled_in}}, proofs.Lookups.{item-at}}
+use Rattle.rm_redo.specs.{LogFile.{log_file_of}, Logs.{Logs}, Online.{IsThread, has_log, thread_log, thread_logs, told_log}}
+use Rattle.rm_redo.specs.declared.{log_file.LogFile.{LogFile}, online.ThreadLog.{ThreadLog}}
+use Rattle.rm_machine.specs.{Loading.{inc_of_first, online_of, where_of}, Saved.{FitsOnline}, Sound.{IsGone}, State.{is_lost}}
 use Rattle.rm_machine.proofs.Threads.{where-gone, where-is_there}
 
 -- the flag of a thread, of four

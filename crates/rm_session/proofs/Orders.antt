@@ -1,12 +1,8 @@
 -- A piece of an image stands in order.
-use Rattle.std.proofs.Common.{◌≡◌, ◌≢◌, ◌∙◌, sym, ap}
-use Rattle.std.proofs.lemmas.Option.{get_or_from_slice_get, slice_get_within}
-use Rattle.rm_base.specs.declared.kinds.Kind.{Kind}
-use Rattle.rm_base.specs.declared.kinds.Kind.TheVariants.{Level1, Place}
+use Rattle.std.proofs.{Common.{◌≡◌, ◌≢◌, ◌∙◌, sym, ap}, lemmas.Option.{get_or_from_slice_get, slice_get_within}}
+use Rattle.rm_base.specs.declared.kinds.Kind.{Kind, TheVariants.{Level1, Place}}
 use Rattle.rm_blocks.specs.File.{IsInOrder}
-use Rattle.rm_piece.specs.Valid.{IsPiece}
-use Rattle.rm_piece.specs.declared.piece.Piece.{Piece}
-use Rattle.rm_piece.proofs.Whole.{placed}
+use Rattle.rm_piece.{specs.{Valid.{IsPiece}, declared.piece.Piece.{Piece}}, proofs.Whole.{placed}}
 
 pub not-level1 : (k : Kind) → k ≡ Place → k ≢ Level1
 not-level1 k is other = let both : Place ≡ Level1 = sym is ∙ other in absurd (cc)

@@ -1,24 +1,16 @@
 -- What is saved: each part is that of a datafile in place, or of an online log that is not lost.
+use Rattle.std.specs.{List.{cons_option}, Option.{option_map, option_map_or}}
 use Rattle.std.proofs.Common.{◌≡◌, ◌≢◌, ◌<◌, ◌≤◌, ◌+◌, ◌-◌, ◌∙◌, ◌++◌, ◌&&◌, not, inl, inr, ℕ, zero, suc, List, [], ◌∷◌, Option, Some, None, Bool, true, false, cond, refl, ap, sym, subst, arith, length, length-append, AllPairs, Contains, slice_get}
-use Rattle.std.specs.List.{cons_option}
-use Rattle.std.specs.Option.{option_map, option_map_or}
-use Rattle.std.proofs.lemmas.List.Elements.{Contains-append_cases, Contains-append_left, Contains-append_right}
-use Rattle.std.proofs.lemmas.List.Kept.{AllPairs-cons}
+use Rattle.std.proofs.lemmas.List.{Elements.{Contains-append_cases, Contains-append_left, Contains-append_right}, Kept.{AllPairs-cons}}
 use Rattle.rm_base.proofs.Members.{behind, in-front, none-in, first-or-rest}
 use Rattle.rm_blocks.specs.File.{File}
 use Rattle.rm_evidence.specs.Gathered.{placed_piece}
 use Rattle.rm_catalog_typed.proofs.Keeping.{pairs_append}
-use Rattle.rm_machine.specs.declared.state.State.{State}
-use Rattle.rm_machine.specs.Saving.{SitePart, file_parts, log_parts, parts_of}
-use Rattle.rm_machine.specs.Sound.{IsSound}
-use Rattle.rm_machine.specs.State.{ledger, counted, is_lost, is_online}
-use Rattle.rm_machine.proofs.Fitting.{stands-valid}
-use Rattle.rm_machine.proofs.Standing.{each-in}
-use Rattle.rm_machine.proofs.Threads.{online-parts, thread-in}
+use Rattle.rm_machine.specs.{Saving.{SitePart, file_parts, log_parts, parts_of}, Sound.{IsSound}}
+use Rattle.rm_machine.{specs.{State.{ledger, counted, is_lost, is_online}, declared.state.State.{State}}, proofs.Fitting.{stands-valid}}
+use Rattle.rm_machine.proofs.{Standing.{each-in}, Threads.{online-parts, thread-in}}
 use Rattle.rm_piece.specs.Valid.{IsPiece}
-use Rattle.rm_redo.specs.declared.online.ThreadLog.{ThreadLog}
-use Rattle.rm_redo.specs.Logs.{Logs}
-use Rattle.rm_redo.specs.Online.{IsThread}
+use Rattle.rm_redo.specs.{Logs.{Logs}, Online.{IsThread}, declared.online.ThreadLog.{ThreadLog}}
 use Rattle.rm_session.specs.Adding.{part_of_file, part_of_thread}
 
 -- what stands in place is valid as a piece

@@ -1,13 +1,11 @@
 -- Lists that grow by one item, each at its place.
 use Rattle.std.proofs.Common.{◌≡◌, ◌∙◌, ◌+◌, inl, inr, ℕ, Bool, List, [], ◌∷◌, ◌++◌, Option, Some, None, IfSome, sym, ap, subst, length, get_or, slice_get}
 use Rattle.std.proofs.lemmas.Option.{get_or_from_slice_get, same_Some}
-use Rattle.rm_base.specs.Store.{Held}
-use Rattle.rm_base.proofs.Slots.{get-push}
+use Rattle.rm_base.{specs.Store.{Held}, proofs.Slots.{get-push}}
 use Rattle.rm_blocks.specs.File.{File}
 use Rattle.rm_history.specs.declared.world.Datafile.{Datafile}
-use Rattle.rm_catalog_typed.specs.Ledger.{Ledger}
+use Rattle.rm_catalog_typed.specs.{Ledger.{Ledger}, TypedCatalog.{Saved}}
 use Rattle.rm_machine.specs.Loading.{IsLoadedFile}
-use Rattle.rm_catalog_typed.specs.TypedCatalog.{Saved}
 use Rattle.rm_session.specs.Fit.{AllAt, FitsAt, IsFitFile, IsLoadedAt}
 
 -- one item more

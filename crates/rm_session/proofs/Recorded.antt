@@ -1,19 +1,11 @@
 -- Records tell of one database: each kind's records tell what the database has of that kind.
-use Rattle.std.proofs.Common.{◌≡◌, ◌∙◌, ℕ, ◌+◌, List, [], ◌∷◌, ◌++◌, Option, Some, None, refl, ap, sym, map}
-use Rattle.std.specs.List.{filter_map}
+use Rattle.std.{specs.List.{filter_map}, proofs.Common.{◌≡◌, ◌∙◌, ℕ, ◌+◌, List, [], ◌∷◌, ◌++◌, Option, Some, None, refl, ap, sym, map}}
 use Rattle.std.proofs.lemmas.List.{append-nil, append_assoc}
 use Rattle.rm_base.specs.declared.block.Mark.{Mark}
-use Rattle.rm_catalog.specs.declared.record.BaseEntry.{BaseEntry}
-use Rattle.rm_catalog.specs.declared.record.HeadEntry.{HeadEntry}
-use Rattle.rm_catalog.specs.declared.record.LogEntry.{LogEntry}
-use Rattle.rm_catalog.specs.declared.record.PartEntry.{PartEntry}
-use Rattle.rm_catalog.specs.declared.record.PieceEntry.{PieceEntry}
-use Rattle.rm_catalog.specs.declared.record.Record.{Record}
-use Rattle.rm_catalog.specs.declared.record.Record.TheVariants as kind
+use Rattle.rm_catalog.specs.{Keys.{head_in, part_in}, declared.record.{BaseEntry.{BaseEntry}, HeadEntry.{HeadEntry}, LogEntry.{LogEntry}}}
+use Rattle.rm_catalog.specs.declared.record.{PartEntry.{PartEntry}, PieceEntry.{PieceEntry}, Record.{Record, TheVariants as kind}}
 use Rattle.rm_catalog.specs.declared.record.SetEntry.{SetEntry}
-use Rattle.rm_catalog.specs.Keys.{head_in, part_in}
-use Rattle.rm_history.specs.declared.tree.Incarnation.{Incarnation}
-use Rattle.rm_history.specs.declared.world.Datafile.{Datafile}
+use Rattle.rm_history.specs.declared.{tree.Incarnation.{Incarnation}, world.Datafile.{Datafile}}
 use Rattle.rm_catalog_typed.specs.Kinds.{ledger_in, saved_in}
 use Rattle.rm_catalog_typed.specs.Ledger.{Ledger, datafile_record, incarnation_record, mark_record, numbered, switch_record}
 use Rattle.rm_catalog_typed.specs.TypedCatalog.{TypedCatalog, Saved, all_records, records_of, saved_records}

@@ -1,15 +1,10 @@
 -- A copy that lies below the SCN where it stands has the states there.
 use Rattle.std.proofs.Common.{◌≡◌, ◌<◌, ◌≤◌, inl, inr, ℕ, List, sym, subst, arith, Contains, get_or}
 use Rattle.std.proofs.lemmas.List.Elements.{Contains-get_or}
-use Rattle.rm_base.specs.declared.block.Change.{Change}
-use Rattle.rm_base.specs.declared.block.Row.{Row}
+use Rattle.rm_base.specs.declared.block.{Change.{Change}, Row.{Row}}
 use Rattle.rm_blocks.specs.File.{File, base_of}
-use Rattle.rm_history.specs.Agrees.{BaseAgrees}
-use Rattle.rm_history.specs.History.{IsHistory}
-use Rattle.rm_history.specs.State.{IsState, state}
-use Rattle.rm_history.specs.declared.world.World.{World}
-use Rattle.rm_history.proofs.Growth.{concerns-later}
-use Rattle.rm_history.proofs.States.{concerns-from, concerns-parts, state-held, state-one}
+use Rattle.rm_history.specs.{Agrees.{BaseAgrees}, History.{IsHistory}, State.{IsState, state}, declared.world.World.{World}}
+use Rattle.rm_history.proofs.{Growth.{concerns-later}, States.{concerns-from, concerns-parts, state-held, state-one}}
 use Rattle.rm_machine.specs.Machine.{RowsAre}
 
 module _ (w : World) (h : List Change) (history : IsHistory w h) where

@@ -1,22 +1,14 @@
 -- What is loaded of a datafile is what stood in place, as what it counted.
-use Rattle.std.proofs.Common.{◌≡◌, ◌+◌, ◌∙◌, ◌⊎◌, inl, inr, ℕ, Option, Some, None, refl, ap, sym, map, Contains, slice_get, slice_index_or}
 use Rattle.std.specs.Option.{option_map}
-use Rattle.rm_base.proofs.Slots.{get-index, index-get}
-use Rattle.rm_base.specs.Store.{Held}
+use Rattle.std.proofs.Common.{◌≡◌, ◌+◌, ◌∙◌, ◌⊎◌, inl, inr, ℕ, Option, Some, None, refl, ap, sym, map, Contains, slice_get, slice_index_or}
+use Rattle.rm_base.{specs.Store.{Held}, proofs.Slots.{get-index, index-get}}
 use Rattle.rm_blocks.specs.File.{File}
-use Rattle.rm_evidence.specs.Gathered.{placed_piece}
+use Rattle.rm_evidence.specs.{Gathered.{placed_piece}, Names.{site_name}}
 use Rattle.rm_history.specs.declared.world.Datafile.{Datafile}
-use Rattle.rm_evidence.specs.Names.{site_name}
-use Rattle.rm_machine.specs.declared.state.State.{State}
-use Rattle.rm_machine.specs.Loading.{IsLoadedFile}
-use Rattle.rm_machine.specs.Saved.{FitsInPlace, IsGoodFile, spelling_of}
-use Rattle.rm_machine.specs.Saving.{SitePart, object_of, rested, saved_of}
-use Rattle.rm_machine.specs.Sound.{IsSound}
-use Rattle.rm_machine.specs.State.{ledger, counted}
-use Rattle.rm_machine.proofs.Places.{counted-open, placed-map, placed-mapped}
-use Rattle.rm_session.specs.Adding.{part_of_file}
-use Rattle.rm_session.proofs.PartsOf.{file-valid}
-use Rattle.rm_session.proofs.Resting.{objects_of}
+use Rattle.rm_machine.specs.{Loading.{IsLoadedFile}, Saved.{FitsInPlace, IsGoodFile, spelling_of}}
+use Rattle.rm_machine.specs.{Saving.{SitePart, object_of, rested, saved_of}, Sound.{IsSound}, State.{ledger, counted}}
+use Rattle.rm_machine.{specs.declared.state.State.{State}, proofs.Places.{counted-open, placed-map, placed-mapped}}
+use Rattle.rm_session.{specs.Adding.{part_of_file}, proofs.{PartsOf.{file-valid}, Resting.{objects_of}}}
 use Rattle.rm_session.proofs.SavedParts.{file-found, file-stood}
 
 -- the store has the object of each part

@@ -1,21 +1,13 @@
 -- What is loaded of what was saved is what stood in place.
-use Rattle.std.proofs.Common.{◌≡◌, ◌∙◌, ◌&&◌, not, ℕ, Option, Some, None, Bool, true, false, refl, ap, sym, arith}
 use Rattle.std.specs.Option.{option_map, option_map_or}
-use Rattle.std.proofs.lemmas.List.{length-map}
-use Rattle.std.proofs.lemmas.Option.{slice_get-map}
+use Rattle.std.proofs.Common.{◌≡◌, ◌∙◌, ◌&&◌, not, ℕ, Option, Some, None, Bool, true, false, refl, ap, sym, arith}
+use Rattle.std.proofs.lemmas.{List.{length-map}, Option.{slice_get-map}}
 use Rattle.rm_catalog.specs.declared.record.HeadEntry.{HeadEntry}
-use Rattle.rm_machine.specs.declared.state.State.{State}
-use Rattle.rm_machine.specs.Damage.{without_damaged}
-use Rattle.rm_machine.specs.Loading.{IsHeadPoint, IsLoaded, IsLoadedPoint, IsTheOne}
-use Rattle.rm_machine.specs.Machine.{IsSoundMachine, Machine}
-use Rattle.rm_machine.specs.Marks.{lacks_ids}
-use Rattle.rm_machine.specs.Rest.{Rest}
-use Rattle.rm_machine.specs.Saving.{IsSavedAs, head_of, rested, saved_logs}
-use Rattle.rm_machine.specs.Sound.{IsPoint, IsSound}
-use Rattle.rm_machine.specs.State.{has_lost, counted, current_of}
-use Rattle.rm_machine.proofs.Places.{counted-closed}
-use Rattle.rm_session.proofs.Resting.{borne-without, object-stands}
-use Rattle.rm_session.proofs.SavedFiles.{HaveObjects, loaded-file}
+use Rattle.rm_machine.specs.{Damage.{without_damaged}, Loading.{IsHeadPoint, IsLoaded, IsLoadedPoint, IsTheOne}}
+use Rattle.rm_machine.specs.{Machine.{IsSoundMachine, Machine}, Marks.{lacks_ids}, Rest.{Rest}}
+use Rattle.rm_machine.specs.{Saving.{IsSavedAs, head_of, rested, saved_logs}, Sound.{IsPoint, IsSound}}
+use Rattle.rm_machine.{specs.{State.{has_lost, counted, current_of}, declared.state.State.{State}}, proofs.Places.{counted-closed}}
+use Rattle.rm_session.proofs.{Resting.{borne-without, object-stands}, SavedFiles.{HaveObjects, loaded-file}}
 use Rattle.rm_session.proofs.SavedLogs.{loaded-logs, none-lost}
 
 -- its mode

@@ -1,40 +1,21 @@
 -- What put_place records is a saved site.
-use Rattle.std.proofs.Common.{◌≡◌, ◌≢◌, Contains, ◌<◌, ◌≤◌, ◌+◌, ◌∙◌, ℕ, Option, Some, None, false, refl, ap, subst, arith, length}
 use Rattle.std.specs.Option.{option_map_or}
-use Rattle.std.proofs.lemmas.List.Elements.{All-contains}
-use Rattle.std.proofs.lemmas.Option.{slice_get_within}
+use Rattle.std.proofs.Common.{◌≡◌, ◌≢◌, Contains, ◌<◌, ◌≤◌, ◌+◌, ◌∙◌, ℕ, Option, Some, None, false, refl, ap, subst, arith, length}
+use Rattle.std.proofs.lemmas.{List.Elements.{All-contains}, Option.{slice_get_within}}
 use Rattle.rm_base.proofs.Sealing.{length-sealed}
-use Rattle.rm_catalog.specs.declared.record.BaseEntry.{BaseEntry}
-use Rattle.rm_catalog.specs.declared.record.HeadEntry.{HeadEntry}
-use Rattle.rm_catalog.specs.declared.record.LogEntry.{LogEntry}
-use Rattle.rm_catalog.specs.declared.record.PartEntry.{PartEntry}
-use Rattle.rm_catalog.specs.declared.record.PieceEntry.{PieceEntry}
-use Rattle.rm_catalog.specs.declared.record.SetEntry.{SetEntry}
+use Rattle.rm_catalog.specs.declared.record.{BaseEntry.{BaseEntry}, HeadEntry.{HeadEntry}, LogEntry.{LogEntry}, PartEntry.{PartEntry}}
+use Rattle.rm_catalog.specs.declared.record.{PieceEntry.{PieceEntry}, SetEntry.{SetEntry}}
 use Rattle.rm_evidence.specs.Gathered.{placed_piece}
 use Rattle.rm_history.specs.Tree.{IsThere}
-use Rattle.rm_piece.specs.Spelling as piece
-use Rattle.rm_piece.proofs.Bodies as piece_bodies
-use Rattle.rm_piece.proofs.Fitting as piece_fitting
-use Rattle.rm_redo.specs.LogFormat as log
-use Rattle.rm_redo.proofs.LogBodies as log_bodies
-use Rattle.rm_redo.proofs.LogFitting as log_fitting
-use Rattle.rm_catalog_typed.specs.Changes.{with_base}
-use Rattle.rm_catalog_typed.specs.Facts.{AreApart, IsPartEntry, IsTypedCatalog, IsSaved}
-use Rattle.rm_catalog_typed.specs.Fitting.{FitsBase}
-use Rattle.rm_catalog_typed.specs.TypedCatalog.{TypedCatalog, Saved}
-use Rattle.rm_catalog_typed.proofs.Changed.{saved_fits}
-use Rattle.rm_catalog_typed.proofs.Fitted.{base_fits}
-use Rattle.rm_machine.specs.Marks.{lacks_ids}
-use Rattle.rm_machine.specs.Saving.{SitePart, entry_of, head_of, object_of, parts_of, saved_of, with_ids, with_site}
-use Rattle.rm_machine.specs.Sound.{IsSound}
-use Rattle.rm_machine.specs.declared.state.State.{State}
-use Rattle.rm_machine.specs.State.{ledger, counted, current_of, online}
-use Rattle.rm_machine.proofs.Standing.{each-in}
-use Rattle.rm_machine.proofs.Switching.{not-above}
-use Rattle.rm_session.specs.Adding.{no_parts, with_parts}
-use Rattle.rm_session.specs.declared.site_parts.Parts.{Parts}
-use Rattle.rm_session.proofs.Adding.{parts-entries, parts-next, parts-objects}
-use Rattle.rm_session.proofs.Ids.{ids-from, ids-pairs}
+use Rattle.rm_piece.{specs.Spelling as piece, proofs.{Bodies as piece_bodies, Fitting as piece_fitting}}
+use Rattle.rm_redo.{specs.LogFormat as log, proofs.{LogBodies as log_bodies, LogFitting as log_fitting}}
+use Rattle.rm_catalog_typed.specs.{Changes.{with_base}, Facts.{AreApart, IsPartEntry, IsTypedCatalog, IsSaved}, Fitting.{FitsBase}}
+use Rattle.rm_catalog_typed.{specs.TypedCatalog.{TypedCatalog, Saved}, proofs.{Changed.{saved_fits}, Fitted.{base_fits}}}
+use Rattle.rm_machine.specs.{Marks.{lacks_ids}, Saving.{SitePart, entry_of, head_of, object_of, parts_of, saved_of, with_ids, with_site}}
+use Rattle.rm_machine.specs.{Sound.{IsSound}, State.{ledger, counted, current_of, online}, declared.state.State.{State}}
+use Rattle.rm_machine.proofs.{Standing.{each-in}, Switching.{not-above}}
+use Rattle.rm_session.specs.{Adding.{no_parts, with_parts}, declared.site_parts.Parts.{Parts}}
+use Rattle.rm_session.proofs.{Adding.{parts-entries, parts-next, parts-objects}, Ids.{ids-from, ids-pairs}}
 use Rattle.rm_session.proofs.PartsOf.{IsOther, IsPartOf, file-valid, of_file, of_thread, part-of, parts-apart, parts-few}
 
 -- the next id after a save

@@ -1,30 +1,16 @@
 -- What is loaded of a saved site makes a sound database, whatever the store holds.
 use Rattle.std.proofs.Common.{◌≡◌, ◌<◌, ◌+◌, ◌^◌, ◌∙◌, inl, inr, ℕ, List, Option, Some, Bool, true, false, not, refl, sym, ap, subst, arith, length, All, slice_get}
-use Rattle.std.proofs.lemmas.Bool.{and_parts, cases_Bool, false≢true, not-true}
-use Rattle.std.proofs.lemmas.Option.{none-some}
+use Rattle.std.proofs.lemmas.{Bool.{and_parts, cases_Bool, false≢true, not-true}, Option.{none-some}}
 use Rattle.rm_blocks.specs.File.{File, standing}
-use Rattle.rm_history.specs.declared.world.Datafile.{Datafile}
-use Rattle.rm_history.specs.Tree.{IsThere, end_of}
-use Rattle.rm_catalog_typed.specs.Ledger.{Ledger}
-use Rattle.rm_catalog_typed.specs.Switches.{is_enabled_in}
-use Rattle.rm_machine.specs.Loading.{file_in, inc_of_first}
-use Rattle.rm_machine.specs.Sound.{AreOnline, ArePlaced, IsGone, IsOnline, IsOpen, IsPlaced, IsSound}
-use Rattle.rm_machine.specs.declared.state.State.{State}
-use Rattle.rm_machine.specs.State.{has_lost, counted, is_lost, ledger, online, tree}
-use Rattle.rm_machine.proofs.Damaged.{damaged-none}
-use Rattle.rm_machine.proofs.Places.{counted-closed, counted-open}
-use Rattle.rm_machine.proofs.Tracked.{tracked-fresh}
+use Rattle.rm_history.specs.{Tree.{IsThere, end_of}, declared.world.Datafile.{Datafile}}
+use Rattle.rm_catalog_typed.specs.{Ledger.{Ledger}, Switches.{is_enabled_in}, Facts.{IsTypedCatalog}, TypedCatalog.{Saved}}
+use Rattle.rm_machine.specs.{Loading.{file_in, inc_of_first}, Sound.{AreOnline, ArePlaced, IsGone, IsOnline, IsOpen, IsPlaced, IsSound}}
+use Rattle.rm_machine.specs.{State.{has_lost, counted, is_lost, ledger, online, tree}, declared.state.State.{State}}
+use Rattle.rm_machine.proofs.{Damaged.{damaged-none}, Places.{counted-closed, counted-open}, Tracked.{tracked-fresh}, LostLogs.{lost-found}}
 use Rattle.rm_piece.proofs.Whole.{full}
-use Rattle.rm_redo.specs.Logs.{Logs}
-use Rattle.rm_redo.specs.Online.{IsThread, has_log}
-use Rattle.rm_redo.specs.declared.log_file.LogFile.{LogFile}
-use Rattle.rm_catalog_typed.specs.Facts.{IsTypedCatalog}
-use Rattle.rm_catalog_typed.specs.TypedCatalog.{Saved}
-use Rattle.rm_session.specs.Fit.{IsFit, IsFitFile, IsFitLog, StandNow}
-use Rattle.rm_session.proofs.Firsts.{first-is, fit-each}
-use Rattle.rm_machine.proofs.LostLogs.{lost-found}
-use Rattle.rm_session.proofs.OnlineParts.{online-part, told-four, told-gone, told-has}
-use Rattle.rm_session.proofs.Orders.{in-order, not-level1}
+use Rattle.rm_redo.specs.{Logs.{Logs}, Online.{IsThread, has_log}, declared.log_file.LogFile.{LogFile}}
+use Rattle.rm_session.{specs.Fit.{IsFit, IsFitFile, IsFitLog, StandNow}, proofs.Firsts.{first-is, fit-each}}
+use Rattle.rm_session.proofs.{OnlineParts.{online-part, told-four, told-gone, told-has}, Orders.{in-order, not-level1}}
 
 -- what is of a piece that fits stands there
 placed-file : (l : Ledger) (opened : Bool) (k : ℕ) (d : Datafile) (x : File) → IsFitFile l opened (k + 1) d x → IsPlaced l.tree k d x

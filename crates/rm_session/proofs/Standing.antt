@@ -1,23 +1,12 @@
 -- Where what is in place stands, and the points of what is loaded.
 use Rattle.std.proofs.Common.{◌≡◌, ◌<◌, ◌+◌, ◌∙◌, inl, inr, ℕ, List, Option, Some, None, true, false, is_none, refl, sym, ap, subst, arith, get_or, slice_get}
-use Rattle.std.proofs.lemmas.Bool.{cases_lt, false≢true}
-use Rattle.std.proofs.lemmas.List.Elements.{Contains-get_or}
-use Rattle.std.proofs.lemmas.Option.{none-some, same_Some}
-use Rattle.rm_base.proofs.Conditions.{given-where}
-use Rattle.rm_base.proofs.Slots.{get-index}
+use Rattle.std.proofs.lemmas.{Bool.{cases_lt, false≢true}, List.Elements.{Contains-get_or}, Option.{none-some, same_Some}}
+use Rattle.rm_base.proofs.{Conditions.{given-where}, Slots.{get-index}}
 use Rattle.rm_blocks.specs.File.{File}
-use Rattle.rm_history.specs.declared.world.Datafile.{Datafile}
-use Rattle.rm_history.specs.Tree.{end_of}
-use Rattle.rm_history.specs.World.{exists}
-use Rattle.rm_history.proofs.Highs.{high-above}
-use Rattle.rm_machine.specs.Mount.{first_lost, mount_point}
-use Rattle.rm_machine.specs.Sound.{IsPlaced, IsPoint, IsSound, StandsAt}
-use Rattle.rm_machine.specs.declared.state.State.{State}
-use Rattle.rm_machine.specs.State.{current_of, ledger, now_of, tree, world}
-use Rattle.rm_machine.proofs.Damaged.{damaged-same}
-use Rattle.rm_machine.proofs.Mounting.{none-lost}
-use Rattle.rm_machine.proofs.Places.{counted-closed}
-use Rattle.rm_machine.proofs.Tracked.{tracked-same}
+use Rattle.rm_history.{specs.{Tree.{end_of}, World.{exists}, declared.world.Datafile.{Datafile}}, proofs.Highs.{high-above}}
+use Rattle.rm_machine.specs.{Mount.{first_lost, mount_point}, Sound.{IsPlaced, IsPoint, IsSound, StandsAt}}
+use Rattle.rm_machine.{specs.{State.{current_of, ledger, now_of, tree, world}, declared.state.State.{State}}, proofs.Damaged.{damaged-same}}
+use Rattle.rm_machine.proofs.{Mounting.{none-lost}, Places.{counted-closed}, Tracked.{tracked-same}}
 use Rattle.rm_session.specs.Fit.{IsStanding, StandNow, with_point}
 
 -- what stands at a place, and the other way round

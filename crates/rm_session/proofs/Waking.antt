@@ -1,40 +1,23 @@
 -- A machine that wakes is sound.
-use Rattle.std.proofs.Common.{◌≡◌, ◌<◌, ◌≤◌, ◌+◌, ◌-◌, ◌∙◌, not, inl, inr, ℕ, List, Option, Some, None, IfSome, true, false, ap, sym, subst, arith, Contains, slice_get, slice_index_or}
 use Rattle.std.specs.Option.{option_map}
-use Rattle.std.proofs.lemmas.Bool.{and_parts, cases_Bool}
-use Rattle.std.proofs.lemmas.List.Elements.{All-contains}
-use Rattle.std.proofs.lemmas.Option.{slice_get_within}
-use Rattle.rm_base.specs.Store.{Held}
-use Rattle.rm_base.specs.declared.block.Change.{Change}
-use Rattle.rm_base.specs.declared.block.Row.{Row}
-use Rattle.rm_base.proofs.Slots.{get-index, index-get}
+use Rattle.std.proofs.Common.{◌≡◌, ◌<◌, ◌≤◌, ◌+◌, ◌-◌, ◌∙◌, not, inl, inr, ℕ, List, Option, Some, None, IfSome, true, false, ap, sym, subst, arith, Contains, slice_get, slice_index_or}
+use Rattle.std.proofs.lemmas.{Bool.{and_parts, cases_Bool}, List.Elements.{All-contains}, Option.{slice_get_within}}
+use Rattle.rm_base.{specs.{Store.{Held}, declared.block.{Change.{Change}, Row.{Row}}}, proofs.Slots.{get-index, index-get}}
 use Rattle.rm_blocks.specs.File.{File, base_of, standing}
 use Rattle.rm_catalog.specs.declared.record.PartEntry.{PartEntry}
-use Rattle.rm_history.specs.Agrees.{BaseAgrees, LogAgrees}
-use Rattle.rm_history.specs.declared.world.Datafile.{Datafile}
-use Rattle.rm_history.specs.Tree.{end_of}
-use Rattle.rm_history.specs.World.{exists}
+use Rattle.rm_history.specs.{Agrees.{BaseAgrees, LogAgrees}, Tree.{end_of}, World.{exists}, declared.world.Datafile.{Datafile}}
 use Rattle.rm_history.proofs.Highs.{high-above}
-use Rattle.rm_catalog_typed.proofs.Lookups.{item-at}
+use Rattle.rm_catalog_typed.{specs.TypedCatalog.{Saved}, proofs.Lookups.{item-at}}
 use Rattle.rm_track.specs.Told.{Tell}
 use Rattle.rm_piece.specs.declared.piece.Piece.{Piece}
-use Rattle.rm_redo.specs.LogFile.{log_of}
-use Rattle.rm_redo.specs.Online.{IsThread}
-use Rattle.rm_catalog_typed.specs.TypedCatalog.{Saved}
-use Rattle.rm_machine.specs.Effect.{Made}
-use Rattle.rm_machine.specs.Loading.{IsLoaded, IsLoadedBy, IsLoadedOf, IsTheOne, file_in}
+use Rattle.rm_redo.specs.{LogFile.{log_of}, Online.{IsThread}}
+use Rattle.rm_machine.specs.{Effect.{Made}, Loading.{IsLoaded, IsLoadedBy, IsLoadedOf, IsTheOne, file_in}}
 use Rattle.rm_machine.specs.Machine.{HistoryFits, IsSoundBy, IsSoundMachine, Machine, RowsAre}
 use Rattle.rm_machine.specs.Rest.{HasPartArtefact, HaveParts, IsRestBorneOut, IsSoundRest, IsSoundRestBy, PartsTell, PartsTellFor, Rest, Wakes, catalog_in}
-use Rattle.rm_machine.specs.Saved.{IsGoodFile, IsGoodLog}
-use Rattle.rm_machine.specs.Sound.{IsSound}
-use Rattle.rm_machine.specs.declared.state.State.{State}
-use Rattle.rm_machine.specs.State.{has_lost, counted, current_of, is_lost, ledger, now_of, online, world}
-use Rattle.rm_machine.proofs.FirstTold.{tell-first}
-use Rattle.rm_machine.proofs.Places.{counted-closed, counted-open}
-use Rattle.rm_session.proofs.GoodParts.{file-agrees, log-agrees}
-use Rattle.rm_session.proofs.Lost.{lost-fits}
-use Rattle.rm_session.proofs.OnlineParts.{online-part}
-use Rattle.rm_session.proofs.RowsThere.{rows-are}
+use Rattle.rm_machine.specs.{Saved.{IsGoodFile, IsGoodLog}, Sound.{IsSound}}
+use Rattle.rm_machine.specs.{State.{has_lost, counted, current_of, is_lost, ledger, now_of, online, world}, declared.state.State.{State}}
+use Rattle.rm_machine.proofs.{FirstTold.{tell-first}, Places.{counted-closed, counted-open}}
+use Rattle.rm_session.proofs.{GoodParts.{file-agrees, log-agrees}, Lost.{lost-fits}, OnlineParts.{online-part}, RowsThere.{rows-are}}
 
 -- what is loaded is there where its part is
 good-by : (Good : Piece → Type 0) (o : Option Piece) (x : File) → IsTheOne Good o → Some x ≡ option_map file_in o → (a : Piece) × Good a × (x ≡ file_in a)

@@ -2,13 +2,9 @@
 use Rattle.std.specs.Prelude.{ℕ, ◌+◌, List, [], ◌∷◌, ◌++◌, length}
 use Rattle.sha2.specs.Sha256.{sha256}
 use Rattle.rm_blocks.specs.File.{File}
-use Rattle.rm_evidence.specs.Gathered.{placed_piece}
+use Rattle.rm_evidence.specs.{Gathered.{placed_piece}, Names.{site_name}}
+use Rattle.rm_machine.specs.{Effect.{a_log, a_piece}, Saved.{spelling_of}, Saving.{SitePart}, State.{ledger, counted, online}}
 use Rattle.rm_machine.specs.declared.state.State.{State}
-use Rattle.rm_machine.specs.Effect.{a_log, a_piece}
-use Rattle.rm_machine.specs.Saved.{spelling_of}
-use Rattle.rm_machine.specs.Saving.{SitePart}
-use Rattle.rm_machine.specs.State.{ledger, counted, online}
-use Rattle.rm_evidence.specs.Names.{site_name}
 use Rattle.rm_session.specs.declared.site_parts.Parts.{Parts}
 
 -- none yet, where this is the next id

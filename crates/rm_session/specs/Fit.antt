@@ -3,25 +3,15 @@ use Rattle.std.specs.Prelude.{ℕ, ◌≡◌, ◌+◌, ◌<◌, ◌&&◌, not, B
 use Rattle.rm_base.specs.Store.{Held}
 use Rattle.rm_blocks.specs.File.{File}
 use Rattle.rm_catalog.specs.declared.record.PartEntry.{PartEntry}
-use Rattle.rm_history.specs.declared.world.Datafile.{Datafile}
-use Rattle.rm_history.specs.World.{exists}
-use Rattle.rm_catalog_typed.specs.Ledger.{Ledger}
+use Rattle.rm_history.specs.{World.{exists}, declared.world.Datafile.{Datafile}}
+use Rattle.rm_catalog_typed.specs.{Ledger.{Ledger}, TypedCatalog.{Saved}}
 use Rattle.rm_machine.specs.Loading.{AreLoadedLogs, IsLoadedFile, IsLoadedPoint, IsTheOne, file_in, lost_instance, online_of}
-use Rattle.rm_machine.specs.Saved.{FitsInPlace, FitsOnline, HasPart, IsGoodLog}
-use Rattle.rm_machine.specs.Sound.{StandsAt}
-use Rattle.rm_machine.specs.State.{has_lost, current_of, ledger, now_of, world}
-use Rattle.rm_machine.specs.Tracked.{first_tracker}
-use Rattle.rm_machine.specs.declared.state.Instance.{Instance}
-use Rattle.rm_machine.specs.declared.state.State.{State}
+use Rattle.rm_machine.specs.{Saved.{FitsInPlace, FitsOnline, HasPart, IsGoodLog}, Sound.{StandsAt}}
+use Rattle.rm_machine.specs.{State.{has_lost, current_of, ledger, now_of, world}, Tracked.{first_tracker}}
+use Rattle.rm_machine.specs.declared.state.{Instance.{Instance}, State.{State}}
 use Rattle.rm_evidence.specs.Objects.{HasDigest}
-use Rattle.rm_piece.specs.Spelling as piece_format
-use Rattle.rm_piece.specs.Valid.{IsPiece}
-use Rattle.rm_piece.specs.declared.piece.Piece.{Piece}
-use Rattle.rm_redo.specs.LogFormat as log_format
-use Rattle.rm_redo.specs.LogFormat.{IsLogFile}
-use Rattle.rm_redo.specs.Logs.{Logs}
-use Rattle.rm_redo.specs.declared.log_file.LogFile.{LogFile}
-use Rattle.rm_catalog_typed.specs.TypedCatalog.{Saved}
+use Rattle.rm_piece.specs.{Spelling as piece_format, Valid.{IsPiece}, declared.piece.Piece.{Piece}}
+use Rattle.rm_redo.specs.{LogFormat as log_format, LogFormat.{IsLogFile}, Logs.{Logs}, declared.log_file.LogFile.{LogFile}}
 
 -- the bytes have the digest of the part, and spell this piece
 pub record IsPieceOf (p : PartEntry) (bytes : List ℕ) (a : Piece) : Type 0 where

@@ -1,11 +1,8 @@
 //! The datafiles of a saved site.
-ghost use Rattle.std.specs.Prelude.{◌≡◌, ◌↔◌, ◌≤◌, IfOk, IfSome, IsErrOf, IsTrue, length};
-ghost use Rattle.std.specs.Option.{option_copied};
-ghost use Rattle.rm_base.specs.Outside.{Rose};
-ghost use Rattle.rm_base.specs.declared.kinds.Kind.TheVariants.{Place};
+ghost use Rattle.std.specs.{Prelude.{◌≡◌, ◌↔◌, ◌≤◌, IfOk, IfSome, IsErrOf, IsTrue, length}, Option.{option_copied}};
+ghost use Rattle.rm_base.specs.{Outside.{Rose}, declared.kinds.Kind.TheVariants.{Place}};
 ghost use Rattle.rm_history.specs.Tree.{end_of};
-ghost use Rattle.rm_machine.specs.Loading.{IsLoadedFile, IsTheOne, file_in};
-ghost use Rattle.rm_machine.specs.Saved.{FitsInPlace, IsGoodFile, file_part};
+ghost use Rattle.rm_machine.specs.{Loading.{IsLoadedFile, IsTheOne, file_in}, Saved.{FitsInPlace, IsGoodFile, file_part}};
 ghost use Rattle.rm_piece.specs.Valid.{IsPiece};
 ghost use Rattle.rm_catalog_typed.specs.Facts.{IsTypedCatalog};
 ghost use Rattle.rm_session.specs.Fit.{AllAt, FitsAt, IsFitFile, IsFitPiece, IsLoadedAt, IsWhereFits};

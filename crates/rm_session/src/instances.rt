@@ -1,8 +1,7 @@
 //! What runs, as it is loaded, its point left aside.
 ghost use Rattle.std.specs.Prelude.{◌≡◌, ◌≤◌, ◌&&◌, None, IfOk, IfSome, IsErrOf, not, replicate};
 ghost use Rattle.rm_base.specs.Outside.{Rose};
-ghost use Rattle.rm_machine.specs.Loading.{lost_instance};
-ghost use Rattle.rm_machine.specs.State.{has_lost};
+ghost use Rattle.rm_machine.specs.{Loading.{lost_instance}, State.{has_lost}};
 ghost use Rattle.rm_catalog_typed.specs.Facts.{IsTypedCatalog};
 ghost use Rattle.rm_session.specs.Fit.{IsFit, IsHad};
 

@@ -1,11 +1,8 @@
 //! What is loaded, and what a machine that wakes is.
 ghost use Rattle.std.specs.Prelude.{◌≡◌, IfSome};
 ghost use Rattle.rm_base.specs.Store.{Held};
-ghost use Rattle.rm_machine.specs.Loading.{IsLoaded};
-ghost use Rattle.rm_machine.specs.Machine.{IsSoundMachine, Machine};
-ghost use Rattle.rm_machine.specs.Rest.{IsSoundRest, PartsTell, Rest, Wakes};
-ghost use Rattle.rm_machine.specs.Sound.{IsSound};
-ghost use Rattle.rm_machine.specs.declared.state.State.{State};
+ghost use Rattle.rm_machine.specs.{Loading.{IsLoaded}, Machine.{IsSoundMachine, Machine}, Rest.{IsSoundRest, PartsTell, Rest, Wakes}};
+ghost use Rattle.rm_machine.specs.{Sound.{IsSound}, declared.state.State.{State}};
 
 /// Where digests tell of its parts, a machine that wakes is sound: what is loaded fits the history.
 pub fn what_is_loaded_fits_the_history()

@@ -1,8 +1,7 @@
 //! A saved site is loaded.
 ghost use Rattle.std.specs.Prelude.{◌≡◌, ◌<◌, ◌≤◌, ◌^◌, IfOk, IfSome, IsErrOf};
 ghost use Rattle.rm_base.specs.Outside.{Rose};
-ghost use Rattle.rm_machine.specs.Loading.{IsLoaded};
-ghost use Rattle.rm_machine.specs.Sound.{IsSound};
+ghost use Rattle.rm_machine.specs.{Loading.{IsLoaded}, Sound.{IsSound}};
 ghost use Rattle.rm_catalog_typed.specs.Facts.{IsTypedCatalog};
 ghost use Rattle.rm_session.specs.Fit.{IsFitBy, IsHadBy};
 

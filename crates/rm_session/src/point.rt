@@ -1,10 +1,7 @@
 //! The point of what is loaded.
 ghost use Rattle.std.specs.Prelude.{◌≡◌, ◌↔◌, ◌<◌, All, IfSome, IsTrue, false, true};
 ghost use Rattle.rm_history.specs.Tree.{IsThere};
-ghost use Rattle.rm_machine.specs.Loading.{IsHeadPoint, IsTheOne};
-ghost use Rattle.rm_machine.specs.Mount.{mount_point};
-ghost use Rattle.rm_machine.specs.Sound.{IsPoint, IsSound};
-ghost use Rattle.rm_machine.specs.State.{tree};
+ghost use Rattle.rm_machine.specs.{Loading.{IsHeadPoint, IsTheOne}, Mount.{mount_point}, Sound.{IsPoint, IsSound}, State.{tree}};
 ghost use Rattle.rm_session.specs.Fit.{AllStand, IsPointBy, IsStanding, StandNow, with_point};
 
 use rm_base::{IncNo, Scn};

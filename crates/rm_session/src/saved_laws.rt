@@ -1,12 +1,7 @@
 //! What a saved site is worth.
 ghost use Rattle.std.specs.Prelude.{◌≡◌, None, Some, false};
-ghost use Rattle.rm_machine.specs.Damage.{without_damaged};
-ghost use Rattle.rm_machine.specs.Loading.{IsLoaded};
-ghost use Rattle.rm_machine.specs.Machine.{IsSoundMachine, Machine};
-ghost use Rattle.rm_machine.specs.Marks.{lacks_ids};
-ghost use Rattle.rm_machine.specs.Rest.{IsSoundRest, Rest};
-ghost use Rattle.rm_machine.specs.Saving.{IsSavedAs, rested};
-ghost use Rattle.rm_machine.specs.declared.state.State.{State};
+ghost use Rattle.rm_machine.specs.{Damage.{without_damaged}, Loading.{IsLoaded}, Machine.{IsSoundMachine, Machine}, Marks.{lacks_ids}};
+ghost use Rattle.rm_machine.specs.{Rest.{IsSoundRest, Rest}, Saving.{IsSavedAs, rested}, declared.state.State.{State}};
 
 /// What was saved, where each datafile with a damaged block was lost before, is at rest: each part has its artefact, which agrees with the history.
 pub fn what_is_saved_rests()

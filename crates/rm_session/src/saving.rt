@@ -1,10 +1,7 @@
 //! A site is saved.
 ghost use Rattle.std.specs.Prelude.{◌≡◌, false, IfOk, OnOk, None};
-ghost use Rattle.rm_machine.specs.Damage.{without_damaged};
-ghost use Rattle.rm_machine.specs.Marks.{lacks_ids};
-ghost use Rattle.rm_machine.specs.Saving.{head_of, object_of, parts_of, with_ids, with_site};
-ghost use Rattle.rm_machine.specs.Sound.{IsSound};
-ghost use Rattle.rm_machine.specs.State.{ledger};
+ghost use Rattle.rm_machine.specs.{Damage.{without_damaged}, Marks.{lacks_ids}, Saving.{head_of, object_of, parts_of, with_ids, with_site}};
+ghost use Rattle.rm_machine.specs.{Sound.{IsSound}, State.{ledger}};
 ghost use Rattle.rm_catalog_typed.specs.Changes.{EditsFollow};
 
 use crate::site_parts::parts_of;

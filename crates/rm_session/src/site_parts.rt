@@ -2,9 +2,7 @@
 ghost use Rattle.std.specs.Prelude.{◌≡◌, ◌<◌, ◌≤◌, ◌+◌, IfOk, IsTrue, OnOk, false, if◌then◌else◌};
 ghost use Rattle.sha2.specs.Sha256.{sha256};
 ghost use Rattle.rm_evidence.specs.Gathered.{placed_piece};
-ghost use Rattle.rm_machine.specs.Marks.{lacks_ids};
-ghost use Rattle.rm_machine.specs.Saving.{file_parts, log_parts, parts_of};
-ghost use Rattle.rm_machine.specs.Sound.{IsSound};
+ghost use Rattle.rm_machine.specs.{Marks.{lacks_ids}, Saving.{file_parts, log_parts, parts_of}, Sound.{IsSound}};
 ghost use Rattle.rm_machine.specs.State.{counted, is_online, ledger, online};
 ghost use Rattle.rm_piece.specs.Valid.{IsPiece};
 ghost use Rattle.rm_redo.specs.Online.{IsThread};

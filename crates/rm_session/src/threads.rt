@@ -1,6 +1,5 @@
 //! The online logs of a saved site.
-ghost use Rattle.std.specs.Prelude.{◌≡◌, ◌↔◌, ◌<◌, ◌≤◌, All, IfOk, IfSome, IsErrOf, IsTrue, length, map};
-ghost use Rattle.std.specs.Option.{option_copied};
+ghost use Rattle.std.specs.{Prelude.{◌≡◌, ◌↔◌, ◌<◌, ◌≤◌, All, IfOk, IfSome, IsErrOf, IsTrue, length, map}, Option.{option_copied}};
 ghost use Rattle.rm_base.specs.Outside.{Rose};
 ghost use Rattle.rm_history.specs.Tree.{IsThere};
 ghost use Rattle.rm_machine.specs.Loading.{IsTheOne, inc_of_first, online_of, where_of};

@@ -1,6 +1,5 @@
 -- The records of several databases, each under a number.
-use Rattle.std.specs.Prelude.{◌≡◌, ◌≢◌, ℕ, List, Option, Some, None}
-use Rattle.std.specs.Option.{option_map}
+use Rattle.std.specs.{Prelude.{◌≡◌, ◌≢◌, ℕ, List, Option, Some, None}, Option.{option_map}}
 use Rattle.rm_base.specs.Store.{Both}
 use Rattle.rm_catalog.specs.declared.record.Record.{Record}
 

@@ -30,8 +30,7 @@ pub struct Desk<H: Shelf, B: Noted = Brand> {
 }
 
 impl<H: Shelf, B: Noted> Model for Desk<H, B> {
-    ghost use Rattle.rm_shelf.specs.Desk.{Before};
-    ghost use Rattle.rm_shelf.specs.Shelved.{IsNoted};
+    ghost use Rattle.rm_shelf.specs.{Desk.{Before}, Shelved.{IsNoted}};
 
     ghost Value = { Before H };
 
@@ -66,13 +65,10 @@ impl<H: Shelf, B: Noted> Desk<H, B> {
 }
 
 impl<H: Shelf, B: Noted> Keeper for Desk<H, B> {
-    ghost use Rattle.std.specs.Prelude.{◌≤◌, IfOk, IfSome, IsErrOf, OnErr, OnOk};
-    ghost use Rattle.std.specs.Option.{option_map};
+    ghost use Rattle.std.specs.{Prelude.{◌≤◌, IfOk, IfSome, IsErrOf, OnErr, OnOk}, Option.{option_map}};
     ghost use Rattle.rm_base.specs.Outside.{Rose};
+    ghost use Rattle.rm_catalog.specs.{Edits.{after_edits}, Faults.{Answers}, Keys.{Ascends}};
     ghost use Rattle.rm_catalog.specs.declared.keeper.KeeperFail.TheVariants.{Failed};
-    ghost use Rattle.rm_catalog.specs.Edits.{after_edits};
-    ghost use Rattle.rm_catalog.specs.Faults.{Answers};
-    ghost use Rattle.rm_catalog.specs.Keys.{Ascends};
     ghost use Rattle.rm_shelf.specs.Shelved.{AllStay, OthersStay, under};
 
     ghost kept = { λ d. under d.number (H.shelved d.shelf) };

@@ -26,8 +26,7 @@ pub struct MemShelf {
 impl MemShelf {
     ghost use Rattle.std.specs.Prelude.{◌≡◌, [], ℕ, IfOk, OnErr, OnOk};
     ghost use Rattle.rm_catalog.specs.Edits.{after_edits};
-    ghost use Rattle.rm_shelf.specs.MemShelf.{applies_of, loads_of, shelved_by};
-    ghost use Rattle.rm_shelf.specs.Shelved.{SameBut};
+    ghost use Rattle.rm_shelf.specs.{MemShelf.{applies_of, loads_of, shelved_by}, Shelved.{SameBut}};
 
     /// A shelf that keeps no record yet. It takes no memory.
     pub fn new(alloc: Global, loads: Failing, applies: Failing) -> Self
@@ -70,16 +69,11 @@ impl MemShelf {
 }
 
 impl Shelf for MemShelf {
-    ghost use Rattle.std.specs.Prelude.{◌≡◌, ◌≤◌, ◌↔◌, IfOk, IfSome, IsErrOf, OnErr, OnOk, Some};
-    ghost use Rattle.std.specs.Option.{option_map};
-    ghost use Rattle.rm_base.specs.Failing.{FailsNext, after_call};
-    ghost use Rattle.rm_base.specs.Outside.{Rose};
+    ghost use Rattle.std.specs.{Prelude.{◌≡◌, ◌≤◌, ◌↔◌, IfOk, IfSome, IsErrOf, OnErr, OnOk, Some}, Option.{option_map}};
+    ghost use Rattle.rm_base.specs.{Failing.{FailsNext, after_call}, Outside.{Rose}};
+    ghost use Rattle.rm_catalog.specs.{Edits.{after_edits}, Faults.{Answers}, MemKeeper.{has_failed}};
     ghost use Rattle.rm_catalog.specs.declared.keeper.KeeperFail.TheVariants.{Failed};
-    ghost use Rattle.rm_catalog.specs.Edits.{after_edits};
-    ghost use Rattle.rm_catalog.specs.Faults.{Answers};
-    ghost use Rattle.rm_catalog.specs.MemKeeper.{has_failed};
-    ghost use Rattle.rm_shelf.specs.MemShelf.{applies_of, faults_in, loads_of, shelved_by};
-    ghost use Rattle.rm_shelf.specs.Shelved.{AllStay, OthersStay, under};
+    ghost use Rattle.rm_shelf.specs.{MemShelf.{applies_of, faults_in, loads_of, shelved_by}, Shelved.{AllStay, OthersStay, under}};
 
     ghost shelved = { λ m. Some (shelved_by m) };
 

@@ -1,12 +1,8 @@
 //! Where the records of several databases are kept, each database under a number.
-ghost use Rattle.std.specs.Prelude.{◌≡◌, ◌≤◌, ℕ, IfOk, IfSome, IsErrOf, List, OnErr, OnOk, Option};
-ghost use Rattle.std.specs.Option.{option_map};
+ghost use Rattle.std.specs.{Prelude.{◌≡◌, ◌≤◌, ℕ, IfOk, IfSome, IsErrOf, List, OnErr, OnOk, Option}, Option.{option_map}};
 ghost use Rattle.rm_base.specs.Outside.{Rose};
-ghost use Rattle.rm_catalog.specs.declared.keeper.KeeperFail.TheVariants.{Failed};
+ghost use Rattle.rm_catalog.specs.{Edits.{after_edits}, Faults.{Answers}, Keys.{Ascends}, declared.keeper.KeeperFail.TheVariants.{Failed}};
 ghost use Rattle.rm_catalog.specs.declared.record.Record.{Record};
-ghost use Rattle.rm_catalog.specs.Edits.{after_edits};
-ghost use Rattle.rm_catalog.specs.Faults.{Answers};
-ghost use Rattle.rm_catalog.specs.Keys.{Ascends};
 ghost use Rattle.rm_shelf.specs.Shelved.{AllStay, OthersStay, under};
 
 use rm_base::Seq;

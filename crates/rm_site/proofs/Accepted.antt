@@ -2,19 +2,10 @@
 use Rattle.std.proofs.Common.{◌≡◌, false, Option, Some, None, refl, ap, sym, subst}
 use Rattle.rm_base.specs.Store.{Held}
 use Rattle.rm_lang_statement.specs.declared.command.Command.{Command}
-use Rattle.rm_machine.specs.Hands.{Hands}
-use Rattle.rm_machine.specs.Laws.{only_tells}
-use Rattle.rm_machine.specs.declared.handed.Handed.{Handed}
-use Rattle.rm_machine.specs.declared.state.State.{State}
-use Rattle.rm_machine.specs.Nature.{nature_of, tells}
-use Rattle.rm_machine.specs.declared.nature.Nature.TheVariants.{Changes, Mishap}
-use Rattle.rm_machine.specs.Sound.{IsSound}
-use Rattle.rm_machine.specs.Step.{IsStatement, refusal_of}
-use Rattle.rm_machine_laws.proofs.Asking.{change-asks}
-use Rattle.rm_machine_laws.proofs.Every.{every-stays}
-use Rattle.rm_site.specs.Comes.{IsAnswer, IsRefusedBy}
-use Rattle.rm_site.specs.declared.statement.Answer.TheVariants.{Done}
-use Rattle.rm_site.proofs.DatedLines.{change-dated}
+use Rattle.rm_machine.specs.{Hands.{Hands}, Laws.{only_tells}, Nature.{nature_of, tells}, Sound.{IsSound}, Step.{IsStatement, refusal_of}}
+use Rattle.rm_machine.specs.declared.{handed.Handed.{Handed}, state.State.{State}, nature.Nature.TheVariants.{Changes, Mishap}}
+use Rattle.rm_machine_laws.proofs.{Asking.{change-asks}, Every.{every-stays}}
+use Rattle.rm_site.{specs.{Comes.{IsAnswer, IsRefusedBy}, declared.statement.Answer.TheVariants.{Done}}, proofs.DatedLines.{change-dated}}
 
 -- a store that holds nothing: what is so of every store is so of it
 pub nothing : Held

@@ -1,46 +1,23 @@
 -- How a statement is answered where there is a database, and over the site.
-use Rattle.std.proofs.Common.{◌≡◌, ◌∙◌, ◌++◌, ◌&&◌, ◌||◌, not, ℕ, Bool, List, [], Option, Some, None, true, ap, refl, sym, subst}
 use Rattle.std.specs.Prelude.{Result, Ok, Err, OnErr}
-use Rattle.std.proofs.Math.Bool.{or-false}
-use Rattle.std.proofs.lemmas.List.{append-nil}
-use Rattle.rm_base.specs.Store.{Held}
-use Rattle.rm_base.specs.declared.refusal.Refusal.{Refusal}
-use Rattle.rm_catalog.specs.Edits.{after_edits}
-use Rattle.rm_catalog.specs.declared.record.Edit.{Edit}
-use Rattle.rm_catalog.specs.declared.record.Record.{Record}
-use Rattle.rm_commit.specs.declared.commit.Commit.{Commit}
-use Rattle.rm_commit.specs.Carrying.{Carried, Halted}
+use Rattle.std.proofs.Common.{◌≡◌, ◌∙◌, ◌++◌, ◌&&◌, ◌||◌, not, ℕ, Bool, List, [], Option, Some, None, true, ap, refl, sym, subst}
+use Rattle.std.proofs.{Math.Bool.{or-false}, lemmas.List.{append-nil}}
+use Rattle.rm_base.specs.{Store.{Held}, declared.refusal.Refusal.{Refusal}}
+use Rattle.rm_catalog.specs.{Edits.{after_edits}, declared.record.{Edit.{Edit}, Record.{Record}}}
+use Rattle.rm_commit.specs.{Carrying.{Carried, Halted}, declared.commit.Commit.{Commit}}
 use Rattle.rm_lang_statement.specs.declared.command.Command.{Command}
-use Rattle.rm_report.specs.Reply.{refused_by, said}
-use Rattle.rm_report.specs.declared.line.Line.{Line}
-use Rattle.rm_report.specs.declared.line.Reply.{Reply}
-use Rattle.rm_catalog_typed.specs.Changes.{EditsFollow, with_moment, without_saved}
-use Rattle.rm_catalog_typed.specs.Facts.{IsTypedCatalog}
-use Rattle.rm_catalog_typed.specs.TypedCatalog.{TypedCatalog, Saved, records_of}
-use Rattle.rm_catalog_typed.specs.Starting.{with_earlier}
-use Rattle.rm_machine.specs.Effect.{done, refused, told}
-use Rattle.rm_machine.specs.Laws.{only_tells}
-use Rattle.rm_machine.specs.Sound.{IsSound}
-use Rattle.rm_machine.specs.declared.handed.Handed.{Handed}
-use Rattle.rm_machine.specs.declared.state.State.{State}
-use Rattle.rm_machine.specs.State.{at_moment, ledger}
-use Rattle.rm_machine.specs.Step.{IsOutcome, IsOutcomeBy, IsStatement, Step, refusal_of}
-use Rattle.rm_machine.specs.Saved.{saved_names}
-use Rattle.rm_machine.proofs.Later.{sound-later}
-use Rattle.rm_machine_laws.proofs.Leading.{stays as keeps-sound}
-use Rattle.rm_machine_laws.specs.Carries.{IsHanded, IsOutcomeIn}
-use Rattle.rm_machine_laws.specs.Holds.{View, records_in}
-use Rattle.rm_machine_laws.specs.Moments.{IsMomentIn, moment_of}
-use Rattle.rm_machine_laws.specs.Refused.{AnsweredBy, refusal_in}
-use Rattle.rm_machine_laws.specs.Saves.{applies}
-use Rattle.rm_machine_laws.specs.Steps.{IsStepAt, Steps, StepsAt}
-use Rattle.rm_machine_laws.specs.Stopped.{IsStopAt, Stopped, Stops, StopsAt}
+use Rattle.rm_report.specs.{Reply.{refused_by, said}, declared.line.{Line.{Line}, Reply.{Reply}}}
+use Rattle.rm_catalog_typed.specs.{Changes.{EditsFollow, with_moment, without_saved}, Facts.{IsTypedCatalog}}
+use Rattle.rm_catalog_typed.specs.{TypedCatalog.{TypedCatalog, Saved, records_of}, Starting.{with_earlier}}
+use Rattle.rm_machine.specs.{Effect.{done, refused, told}, Laws.{only_tells}, Sound.{IsSound}, State.{at_moment, ledger}}
+use Rattle.rm_machine.specs.{Step.{IsOutcome, IsOutcomeBy, IsStatement, Step, refusal_of}, Saved.{saved_names}}
+use Rattle.rm_machine.{specs.declared.{handed.Handed.{Handed}, state.State.{State}}, proofs.Later.{sound-later}}
+use Rattle.rm_machine_laws.specs.{Carries.{IsHanded, IsOutcomeIn}, Holds.{View, records_in}, Moments.{IsMomentIn, moment_of}}
+use Rattle.rm_machine_laws.specs.{Refused.{AnsweredBy, refusal_in}, Saves.{applies}, Steps.{IsStepAt, Steps, StepsAt}}
+use Rattle.rm_machine_laws.{specs.Stopped.{IsStopAt, Stopped, Stops, StopsAt}, proofs.Leading.{stays as keeps-sound}}
 use Rattle.rm_machine_laws.proofs.Carried.{carried-on, refused-step, told-step}
-use Rattle.rm_machine_laws.proofs.Every.{every-leads, every-loose, every-stays, every-tells}
-use Rattle.rm_machine_laws.proofs.Halting.{halts, nothing-done}
-use Rattle.rm_site.specs.Comes.{ComesTo, IsRefusedBy}
-use Rattle.rm_site.specs.Untouched.{AreSame}
-use Rattle.rm_site.specs.declared.statement.Answer.{Answer}
+use Rattle.rm_machine_laws.proofs.{Every.{every-leads, every-loose, every-stays, every-tells}, Halting.{halts, nothing-done}}
+use Rattle.rm_site.specs.{Comes.{ComesTo, IsRefusedBy}, Untouched.{AreSame}, declared.statement.Answer.{Answer}}
 use Rattle.rm_site.specs.declared.statement.Answer.TheVariants.{Refused, Told, Done}
 
 pub no_more_names : (names : List (List ℕ)) → names ≡ names ++ []

@@ -1,24 +1,14 @@
 -- How a statement comes out.
-use Rattle.std.proofs.Common.{◌≡◌, ◌∙◌, ℕ, List, Option, Some, refl, ap, sym, subst}
-use Rattle.std.specs.Option.{option_map}
-use Rattle.rm_base.specs.Store.{Held}
-use Rattle.rm_base.specs.declared.refusal.Refusal.{Refusal}
-use Rattle.rm_catalog.specs.Edits.{after_edits}
-use Rattle.rm_catalog.specs.declared.record.Record.{Record}
-use Rattle.rm_commit.specs.Carrying.{AreMoved, Carried}
-use Rattle.rm_commit.specs.Names.{HasPuts, HasRemoves}
-use Rattle.rm_commit.specs.declared.commit.Commit.{Commit}
+use Rattle.std.{specs.Option.{option_map}, proofs.Common.{◌≡◌, ◌∙◌, ℕ, List, Option, Some, refl, ap, sym, subst}}
+use Rattle.rm_base.specs.{Store.{Held}, declared.refusal.Refusal.{Refusal}}
+use Rattle.rm_catalog.specs.{Edits.{after_edits}, declared.record.Record.{Record}}
+use Rattle.rm_commit.specs.{Carrying.{AreMoved, Carried}, Names.{HasPuts, HasRemoves}, declared.commit.Commit.{Commit}}
 use Rattle.rm_commit.proofs.Told.{both-told}
 use Rattle.rm_lang_statement.specs.declared.command.Command.{Command}
-use Rattle.rm_machine.specs.Effect.{done, refused, told}
-use Rattle.rm_machine.specs.declared.state.State.{State}
-use Rattle.rm_machine_laws.specs.Carries.{IsHanded, IsOutcomeIn}
-use Rattle.rm_machine_laws.specs.Holds.{View, records_in}
-use Rattle.rm_machine_laws.specs.Moments.{moment_of}
+use Rattle.rm_machine.specs.{Effect.{done, refused, told}, declared.state.State.{State}}
+use Rattle.rm_machine_laws.specs.{Carries.{IsHanded, IsOutcomeIn}, Holds.{View, records_in}, Moments.{moment_of}}
 use Rattle.rm_machine_laws.proofs.Carried.{same-puts}
-use Rattle.rm_report.specs.Reply.{refused_by, said}
-use Rattle.rm_report.specs.declared.line.Line.{Line}
-use Rattle.rm_report.specs.declared.line.Reply.{Reply}
+use Rattle.rm_report.specs.{Reply.{refused_by, said}, declared.line.{Line.{Line}, Reply.{Reply}}}
 use Rattle.rm_site.specs.ComesOut.{ComesOut}
 
 module _ (held : Option Held) (kept : Option (List Record)) (o : Option State) (c : Command) (moment : ℕ) where

@@ -1,20 +1,13 @@
 -- A command of the grammar writes whole blocks.
-use Rattle.std.proofs.Common.{ℕ, ◌≡◌, ◌≤◌, ◌-◌, ◌∷◌, [], Bool, true, false, ◌&&◌, List, Option, Some, None, All, length, rules, refl, sym, ◌∙◌, ap, arith, replicate, if◌then◌else◌, unwrap_or}
 use Rattle.std.specs.List.{list_all}
-use Rattle.std.proofs.lemmas.Bool.{and_parts}
-use Rattle.std.proofs.lemmas.List.{length-append, length-replicate}
-use Rattle.std.proofs.lemmas.List.Elements.{All-cons, All-nil}
+use Rattle.std.proofs.Common.{ℕ, ◌≡◌, ◌≤◌, ◌-◌, ◌∷◌, [], Bool, true, false, ◌&&◌, List, Option, Some, None, All, length, rules, refl, sym, ◌∙◌, ap, arith, replicate, if◌then◌else◌, unwrap_or}
+use Rattle.std.proofs.lemmas.{Bool.{and_parts}, List.{length-append, length-replicate, Elements.{All-cons, All-nil}}}
 use Rattle.std.proofs.lemmas.Slice.Eq.{bytes_eq-Decides}
 use Rattle.rm_base.specs.Content.{padded, trimmed}
 use Rattle.rm_lang_token.specs.Spelling.{are_string_bytes}
-use Rattle.rm_lang_grammar.specs.Spelling.{is_capital_tag, keeps, maybe_valid}
-use Rattle.rm_lang_grammar.specs.Grammar.{in_range}
-use Rattle.rm_lang_statement.specs.Agreed.{agrees}
-use Rattle.rm_lang_statement.specs.Named.{are_named}
-use Rattle.rm_lang_statement.specs.declared.command.WriteForm.{WriteForm}
-use Rattle.rm_lang_statement.specs.declared.command.Command.{Command}
-use Rattle.rm_lang_statement.specs.declared.command.Command.TheVariants.{Backup, BlockRecover, Write}
-use Rattle.rm_lang_statement.specs.IsCommand.{is_command, is_named, is_write}
+use Rattle.rm_lang_grammar.specs.{Spelling.{is_capital_tag, keeps, maybe_valid}, Grammar.{in_range}}
+use Rattle.rm_lang_statement.specs.{Agreed.{agrees}, Named.{are_named}, IsCommand.{is_command, is_named, is_write}}
+use Rattle.rm_lang_statement.specs.declared.command.{WriteForm.{WriteForm}, Command.{Command, TheVariants.{Backup, BlockRecover, Write}}}
 use Rattle.rm_machine.specs.Step.{HasContent}
 
 -- a text of at most 64 bytes becomes a whole block

@@ -1,30 +1,17 @@
 -- How a statement is answered where there is no database.
 use Rattle.std.proofs.Common.{◌≡◌, ◌∙◌, ◌≤◌, ◌∷◌, ℕ, nat_lt, Bool, cond, List, [], Option, Some, None, true, false, refl, ap, sym, subst, arith}
 use Rattle.std.proofs.lemmas.Bool.Decides.{nat_tests}
-use Rattle.rm_base.specs.Numbers.{last_moment}
-use Rattle.rm_base.specs.Store.{Held}
-use Rattle.rm_base.specs.declared.refusal.Limit.TheVariants.{Threads}
-use Rattle.rm_base.specs.declared.refusal.Refusal.{Refusal}
+use Rattle.rm_base.specs.{Numbers.{last_moment}, Store.{Held}, declared.refusal.{Limit.TheVariants.{Threads}, Refusal.{Refusal}}}
 use Rattle.rm_base.specs.declared.refusal.Refusal.TheVariants.{Rm02, Rm11}
-use Rattle.rm_catalog.specs.Edits.{after_edits}
-use Rattle.rm_catalog.specs.declared.record.Edit.{Edit}
+use Rattle.rm_catalog.specs.{Edits.{after_edits}, declared.record.Edit.{Edit}}
 use Rattle.rm_commit.specs.declared.commit.Commit.{Commit}
-use Rattle.rm_lang_statement.specs.declared.command.Command.{Command}
-use Rattle.rm_lang_statement.specs.declared.command.Command.TheVariants.{CreateDatabase}
-use Rattle.rm_lang_statement.specs.IsCommand.{is_command}
+use Rattle.rm_lang_statement.specs.{IsCommand.{is_command}, declared.command.Command.{Command, TheVariants.{CreateDatabase}}}
 use Rattle.rm_catalog_typed.specs.Fresh.{fresh, fresh_edits}
-use Rattle.rm_report.specs.declared.line.Line.{Line}
-use Rattle.rm_report.specs.declared.line.Line.TheVariants.{DatabaseAt}
-use Rattle.rm_machine.specs.CreateDatabase.{fresh_state}
-use Rattle.rm_machine.specs.Effect.{Outcome, done, no_effect, refused}
-use Rattle.rm_machine.specs.Sound.{IsSound}
-use Rattle.rm_machine.specs.declared.state.State.{State}
-use Rattle.rm_machine.specs.Step.{IsOutcomeWithout}
-use Rattle.rm_machine_laws.proofs.Creating.{fresh-sound}
-use Rattle.rm_machine_laws.specs.Carries.{IsHanded}
-use Rattle.rm_machine_laws.specs.Holds.{records_in}
-use Rattle.rm_machine_laws.specs.Refused.{create_refusal, refusal_without}
-use Rattle.rm_machine_laws.proofs.Founding.{AreNumbers, numbers-of}
+use Rattle.rm_report.specs.declared.line.Line.{Line, TheVariants.{DatabaseAt}}
+use Rattle.rm_machine.specs.{CreateDatabase.{fresh_state}, Effect.{Outcome, done, no_effect, refused}, Sound.{IsSound}}
+use Rattle.rm_machine.specs.{Step.{IsOutcomeWithout}, declared.state.State.{State}}
+use Rattle.rm_machine_laws.specs.{Carries.{IsHanded}, Holds.{records_in}, Refused.{create_refusal, refusal_without}}
+use Rattle.rm_machine_laws.proofs.{Creating.{fresh-sound}, Founding.{AreNumbers, numbers-of}}
 
 -- the threads are few, or it is refused
 few-by : (b : Bool) (threads : ℕ) → nat_lt 4 threads ≡ b → cond b (Some (Rm11 Threads)) None ≡ None → threads ≤ 4

@@ -1,31 +1,19 @@
 -- No line of what a statement comes to tells a moment.
-use Rattle.std.proofs.Common.{◌≡◌, ◌++◌, ◌∷◌, ◌+◌, ℕ, zero, suc, Bool, true, false, List, [], Option, Some, None, length, map, sym, subst}
 use Rattle.std.specs.Prelude.{All, IsSomeAnd, if◌then◌else◌}
+use Rattle.std.proofs.Common.{◌≡◌, ◌++◌, ◌∷◌, ◌+◌, ℕ, zero, suc, Bool, true, false, List, [], Option, Some, None, length, map, sym, subst}
 use Rattle.std.proofs.lemmas.List.Elements.{All-append, All-cons, All-nil}
 use Rattle.rm_base.specs.Store.{Held}
-use Rattle.rm_lang_statement.specs.declared.command.BackupForm.{BackupForm}
-use Rattle.rm_lang_statement.specs.declared.command.Command.{Command}
+use Rattle.rm_lang_statement.specs.declared.command.{BackupForm.{BackupForm}, Command.{Command}}
 use Rattle.rm_lang_statement.specs.declared.command.Command.TheVariants.{ArchiveLogCurrent, Backup, BackupFrom, BackupLogs, BlockRecover, CatalogName, ChangeBackup, Corrupt, CreateDatabase, CreateDatafile, Crosscheck, Cut, Damage, DeleteBackup, DeleteExpired, DeleteObsolete, Dump, ListArchived, ListBackup, ListCopy, ListCorruption, ListIncarnation, LoseDatafile, LoseLog, Mount, OpenPlain, OpenResetlogs, Parallelism, Preview, Recover, RecoverCopy, RecoverTest, Remove, Rename, ReportNeedBackup, ReportObsolete, ReportSchema, ResetDatabase, Restore, Retention, ShowAll, SwitchLogfile, SwitchThread, Tracking, ValidateAll, Write}
+use Rattle.rm_lang_statement.specs.declared.command.ChangeTo.{ChangeTo, TheVariants.{Available, Keep, NoKeep, Unavailable, Uncatalog}}
 use Rattle.rm_history.specs.declared.tree.Incarnation.{Incarnation}
-use Rattle.rm_report.specs.Reply.{HasDate, IsPlain}
-use Rattle.rm_report.specs.declared.line.Line.{Line}
-use Rattle.rm_report.specs.declared.line.Line.TheVariants.{Deleted, ThreadScn}
-use Rattle.rm_lang_statement.specs.declared.command.ChangeTo.{ChangeTo}
-use Rattle.rm_lang_statement.specs.declared.command.ChangeTo.TheVariants.{Available, Keep, NoKeep, Unavailable, Uncatalog}
-use Rattle.rm_machine.specs.Archive.{after_thread, lines_from, thread_lines}
-use Rattle.rm_machine.specs.Backup.{or_nothing}
-use Rattle.rm_machine.specs.BackupOutcome.{at_end, write_lines}
-use Rattle.rm_machine.specs.Effect.{Effect, Outcome, done, no_effect, refused, told}
-use Rattle.rm_machine.specs.ListIncarnation.{incarnation_lines}
+use Rattle.rm_report.specs.{Reply.{HasDate, IsPlain}, declared.line.Line.{Line, TheVariants.{Deleted, ThreadScn}}}
+use Rattle.rm_machine.specs.{Archive.{after_thread, lines_from, thread_lines}, Backup.{or_nothing}, BackupOutcome.{at_end, write_lines}}
+use Rattle.rm_machine.specs.{Effect.{Effect, Outcome, done, no_effect, refused, told}, ListIncarnation.{incarnation_lines}}
 use Rattle.rm_machine.specs.MadeObjects.{Packed, after_object, alone, in_set, lines_of, object_lines, packed}
-use Rattle.rm_machine.specs.MadeSets.{InSet, member_line}
-use Rattle.rm_machine.specs.State.{current_of, ledger, now_of, online, tree}
-use Rattle.rm_machine.specs.Step.{IsDone}
-use Rattle.rm_machine.specs.SwitchLogfile.{archived, is_due, made_lines, none_lines, with_archived}
-use Rattle.rm_machine.specs.Upkeep.{change_line}
-use Rattle.rm_machine.specs.declared.state.State.{State}
-use Rattle.rm_machine.specs.Nature.{nature_of}
-use Rattle.rm_machine.specs.declared.nature.Nature.TheVariants.{Changes}
+use Rattle.rm_machine.specs.{MadeSets.{InSet, member_line}, State.{current_of, ledger, now_of, online, tree}, Step.{IsDone}}
+use Rattle.rm_machine.specs.{SwitchLogfile.{archived, is_due, made_lines, none_lines, with_archived}, Upkeep.{change_line}}
+use Rattle.rm_machine.specs.{Nature.{nature_of}, declared.{state.State.{State}, nature.Nature.TheVariants.{Changes}}}
 
 -- the moment of each RM-14 among the lines is at most the last
 record AreDated (lines : List Line) : Type 0 where

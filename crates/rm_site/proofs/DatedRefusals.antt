@@ -1,49 +1,26 @@
 -- No refusal of a sound state tells a moment past the last.
+use Rattle.std.specs.{Prelude.{IfSome, if◌then◌else◌}, Option.{option_and_then, option_map, option_map_or}}
 use Rattle.std.proofs.Common.{◌≡◌, ℕ, Bool, true, false, List, Option, Some, None, sym, subst}
-use Rattle.std.specs.Prelude.{IfSome, if◌then◌else◌}
-use Rattle.std.specs.Option.{option_and_then, option_map, option_map_or}
 use Rattle.rm_base.specs.declared.refusal.Refusal.{Refusal}
-use Rattle.rm_lang_statement.specs.declared.command.BackupForm.{BackupForm}
-use Rattle.rm_lang_statement.specs.declared.command.Command.{Command}
+use Rattle.rm_lang_statement.specs.declared.command.{BackupForm.{BackupForm}, Command.{Command}}
 use Rattle.rm_lang_statement.specs.declared.command.Command.TheVariants.{ArchiveLogCurrent, Backup, BackupFrom, BackupLogs, BlockRecover, ChangeBackup, Corrupt, CreateDatabase, CreateDatafile, Crosscheck, Cut, Damage, DeleteBackup, DeleteExpired, DeleteObsolete, Dump, LoseDatafile, LoseLog, Mount, OpenPlain, OpenResetlogs, Parallelism, Preview, Recover, RecoverCopy, RecoverTest, Remove, Rename, ResetDatabase, Restore, Retention, SwitchLogfile, SwitchThread, Tracking, Write}
-use Rattle.rm_lang_statement.specs.declared.command.RepairForm.{RepairForm}
-use Rattle.rm_lang_statement.specs.declared.command.RetentionForm.{RetentionForm}
-use Rattle.rm_lang_statement.specs.declared.command.RetentionForm.TheVariants as form
-use Rattle.rm_lang_statement.specs.declared.command.Until.{Until}
-use Rattle.rm_lang_statement.specs.declared.command.Until.TheVariants as until
-use Rattle.rm_lang_statement.specs.declared.command.WriteForm.{WriteForm}
+use Rattle.rm_lang_statement.specs.declared.command.{RepairForm.{RepairForm}, RetentionForm.{RetentionForm, TheVariants as form}}
+use Rattle.rm_lang_statement.specs.declared.command.{Until.{Until, TheVariants as until}, WriteForm.{WriteForm}}
 use Rattle.rm_history.specs.declared.world.Datafile.{Datafile}
 use Rattle.rm_report.specs.Reply.{HasDate}
-use Rattle.rm_machine.specs.Archive.{archive_all_refusal, archiving_refusal}
-use Rattle.rm_machine.specs.BackupRefusal.{backup_refusal, damage_refusal, room_refusal}
+use Rattle.rm_machine.specs.{Archive.{archive_all_refusal, archiving_refusal}, BackupRefusal.{backup_refusal, damage_refusal, room_refusal}}
 use Rattle.rm_machine.specs.BlockRecoverRefusal.{repair_damage_refusal, repair_refusal, repair_room_refusal}
-use Rattle.rm_machine.specs.Configure.{parallelism_refusal, policy_refusal, retention_refusal}
-use Rattle.rm_machine.specs.Corrupt.{corrupt_refusal}
-use Rattle.rm_machine.specs.CreateDatafile.{datafile_refusal}
-use Rattle.rm_machine.specs.DisableThread.{disable_refusal, last_refusal}
-use Rattle.rm_machine.specs.Dump.{dump_refusal}
-use Rattle.rm_machine.specs.EnableThread.{enable_refusal}
-use Rattle.rm_machine.specs.LoseDatafile.{lose_refusal}
-use Rattle.rm_machine.specs.LoseLog.{lose_log_refusal}
-use Rattle.rm_machine.specs.Marks.{ids_refusal}
-use Rattle.rm_machine.specs.Open.{open_refusal}
-use Rattle.rm_machine.specs.OpenResetlogs.{resetlogs_refusal}
-use Rattle.rm_machine.specs.Recover.{recover_refusal, target_refusal}
+use Rattle.rm_machine.specs.{Configure.{parallelism_refusal, policy_refusal, retention_refusal}, Corrupt.{corrupt_refusal}}
+use Rattle.rm_machine.specs.{CreateDatafile.{datafile_refusal}, DisableThread.{disable_refusal, last_refusal}, Dump.{dump_refusal}}
+use Rattle.rm_machine.specs.{EnableThread.{enable_refusal}, LoseDatafile.{lose_refusal}, LoseLog.{lose_log_refusal}, Marks.{ids_refusal}}
+use Rattle.rm_machine.specs.{Open.{open_refusal}, OpenResetlogs.{resetlogs_refusal}, Recover.{recover_refusal, target_refusal}}
 use Rattle.rm_machine.specs.RecoverCopy.{copy_refusal_at, recover_copy_refusal, tag_refusal, targetless_refusal}
-use Rattle.rm_machine.specs.RecoverTest.{test_refusal, tested, tested_refusal}
-use Rattle.rm_machine.specs.ResetDatabase.{reset_refusal}
-use Rattle.rm_machine.specs.Recovery.{range_refusal}
-use Rattle.rm_machine.specs.Restore.{absent_refusal, place_refusal, preview_refusal, restore_refusal}
-use Rattle.rm_machine.specs.Roll.{roll_refusal, roll_room}
-use Rattle.rm_machine.specs.Sound.{IsSound}
-use Rattle.rm_machine.specs.Step.{refusal_of}
-use Rattle.rm_machine.specs.SwitchLogfile.{switch_refusal}
+use Rattle.rm_machine.specs.{RecoverTest.{test_refusal, tested, tested_refusal}, ResetDatabase.{reset_refusal}, Recovery.{range_refusal}}
+use Rattle.rm_machine.specs.{Restore.{absent_refusal, place_refusal, preview_refusal, restore_refusal}, Roll.{roll_refusal, roll_room}}
+use Rattle.rm_machine.specs.{Sound.{IsSound}, Step.{refusal_of}, SwitchLogfile.{switch_refusal}}
 use Rattle.rm_machine.specs.Until.{nowhere_refusal, or_else, refusal_at, target_of, thread_refusal, until_refusal}
-use Rattle.rm_machine.specs.Upkeep.{record_refusal}
-use Rattle.rm_machine.specs.Write.{block_refusal, write_refusal}
-use Rattle.rm_machine.specs.declared.state.State.{State}
-use Rattle.rm_machine.specs.State.{current_of, tree}
-use Rattle.rm_machine.proofs.Untils.{nowhere-dated}
+use Rattle.rm_machine.specs.{Upkeep.{record_refusal}, Write.{block_refusal, write_refusal}, State.{current_of, tree}}
+use Rattle.rm_machine.{specs.declared.state.State.{State}, proofs.Untils.{nowhere-dated}}
 
 -- where it refuses, it tells no moment past the last
 record IsDated (o : Option Refusal) : Type 0 where

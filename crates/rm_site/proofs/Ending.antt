@@ -1,35 +1,21 @@
 -- What a save of a database leaves, and what a stop leaves of it.
+use Rattle.std.specs.{Prelude.{is_none, MatchBool, Result, Ok, Err, OnOk, OnErr}, Option.{option_map}}
 use Rattle.std.proofs.Common.{◌≡◌, ◌∙◌, ◌++◌, ◌⊎◌, ◌&&◌, not, inl, inr, ℕ, Bool, List, [], Option, Some, None, true, false, refl, ap, sym, subst}
-use Rattle.std.specs.Prelude.{is_none, MatchBool, Result, Ok, Err, OnOk, OnErr}
-use Rattle.std.specs.Option.{option_map}
 use Rattle.rm_base.specs.Store.{Held}
-use Rattle.rm_catalog.specs.Edits.{after_edits}
-use Rattle.rm_catalog.specs.declared.record.Record.{Record}
-use Rattle.rm_commit.specs.declared.commit.Commit.{Commit}
+use Rattle.rm_catalog.specs.{Edits.{after_edits}, declared.record.Record.{Record}}
 use Rattle.rm_commit.specs.Carrying.{AreMoved, ArePut, Carried, Halted, after_the_edits, before_the_edits}
-use Rattle.rm_commit.specs.Names.{SameBeyondPuts, HasPuts, HasRemoves, is_named, itself, name_of}
+use Rattle.rm_commit.specs.{Names.{SameBeyondPuts, HasPuts, HasRemoves, is_named, itself, name_of}, declared.commit.Commit.{Commit}}
 use Rattle.rm_commit.proofs.Told.{both-map, both-told}
 use Rattle.rm_catalog_typed.specs.TypedCatalog.{Saved, all_records, records_of}
-use Rattle.rm_evidence.specs.Names.{roll_name}
-use Rattle.rm_evidence.proofs.Names.{roll-no-site}
-use Rattle.rm_machine.specs.Damage.{without_damaged}
-use Rattle.rm_machine.specs.Machine.{Machine}
-use Rattle.rm_machine.specs.Marks.{lacks_ids}
-use Rattle.rm_machine.specs.Rest.{Rest, at_rest, catalog_in}
-use Rattle.rm_machine.specs.Saving.{IsSavedAs, IsSavedBy, made_of, object_of, parts_of, with_ids, with_site}
-use Rattle.rm_machine.specs.declared.state.State.{State}
-use Rattle.rm_machine.specs.State.{ledger}
-use Rattle.rm_machine.proofs.Dropping.{IsNoSite}
+use Rattle.rm_evidence.{specs.Names.{roll_name}, proofs.Names.{roll-no-site}}
+use Rattle.rm_machine.specs.{Damage.{without_damaged}, Machine.{Machine}, Marks.{lacks_ids}, Rest.{Rest, at_rest, catalog_in}}
+use Rattle.rm_machine.specs.{Saving.{IsSavedAs, IsSavedBy, made_of, object_of, parts_of, with_ids, with_site}, State.{ledger}}
+use Rattle.rm_machine.{specs.declared.state.State.{State}, proofs.Dropping.{IsNoSite}}
 use Rattle.rm_session.proofs.Resting.{rests as saved-rests}
-use Rattle.rm_machine_laws.specs.Holds.{Holds, HoldsRest, Stands, View, records, saved_in}
-use Rattle.rm_machine_laws.specs.Loose.{IsNamedIn}
-use Rattle.rm_machine_laws.specs.Saves.{IsEnded, Saves, StopsSaving}
-use Rattle.rm_machine_laws.specs.Stopped.{IsLeft}
-use Rattle.rm_machine_laws.proofs.Dropping.{unnamed-site}
-use Rattle.rm_machine_laws.proofs.Halting.{StaysUnder, is-left, left, left-holds, no-part, rests}
-use Rattle.rm_machine_laws.proofs.LowNames.{StayRolls}
-use Rattle.rm_site.specs.Saved.{EndsOut, PutsSite, PutsWhat, SavesAt, StopsSavingAt}
-use Rattle.rm_site.specs.Untouched.{AreSame}
+use Rattle.rm_machine_laws.specs.{Holds.{Holds, HoldsRest, Stands, View, records, saved_in}, Loose.{IsNamedIn}}
+use Rattle.rm_machine_laws.{specs.{Saves.{IsEnded, Saves, StopsSaving}, Stopped.{IsLeft}}, proofs.Dropping.{unnamed-site}}
+use Rattle.rm_machine_laws.proofs.{Halting.{StaysUnder, is-left, left, left-holds, no-part, rests}, LowNames.{StayRolls}}
+use Rattle.rm_site.specs.{Saved.{EndsOut, PutsSite, PutsWhat, SavesAt, StopsSavingAt}, Untouched.{AreSame}}
 
 pub ok-then : {T E : Type 0} {P Q : Type 0} (r : Result T E) → (P → Q) → OnOk r P → OnOk r Q
 ok-then (Ok x) f p = f p

@@ -2,28 +2,14 @@
 use Rattle.std.proofs.Common.{◌≡◌, ◌∙◌, not, true, false, List, Option, None, ℕ, ap, sym, subst}
 use Rattle.rm_base.specs.declared.refusal.Refusal.{Refusal}
 use Rattle.rm_catalog_typed.specs.TypedCatalog.{Saved, TypedCatalog}
-use Rattle.rm_lang_statement.specs.declared.command.Command.{Command}
-use Rattle.rm_lang_statement.specs.declared.command.RepairForm.{RepairForm}
-use Rattle.rm_lang_statement.specs.declared.command.Until.{Until}
-use Rattle.rm_machine.specs.BlockRecoverRefusal.{repair_refusal}
-use Rattle.rm_machine.specs.Laws.{only_tells}
-use Rattle.rm_machine.specs.Marks.{lacks_ids}
-use Rattle.rm_machine.specs.Nature.{nature_of, tells}
-use Rattle.rm_machine.specs.Recover.{recover_refusal}
-use Rattle.rm_machine.specs.Restore.{restore_refusal}
-use Rattle.rm_machine.specs.Step.{refusal_of}
-use Rattle.rm_machine.specs.declared.handed.Handed.{Handed}
-use Rattle.rm_machine.specs.declared.nature.Nature.TheVariants.{Mishap, TellsState}
-use Rattle.rm_machine.specs.declared.state.State.{State}
-use Rattle.rm_machine_laws.proofs.Asking.{mishap-asks, recover-asks, repair-asks, restore-asks}
-use Rattle.rm_machine_laws.specs.Saves.{applies}
-use Rattle.rm_report.specs.Reply.{refused_by, said}
-use Rattle.rm_report.specs.declared.line.Line.{Line}
-use Rattle.rm_report.specs.declared.line.Reply.{Reply}
+use Rattle.rm_lang_statement.specs.declared.command.{Command.{Command}, RepairForm.{RepairForm}, Until.{Until}}
+use Rattle.rm_machine.specs.{BlockRecoverRefusal.{repair_refusal}, Laws.{only_tells}, Marks.{lacks_ids}, Nature.{nature_of, tells}}
+use Rattle.rm_machine.specs.{Recover.{recover_refusal}, Restore.{restore_refusal}, Step.{refusal_of}, declared.handed.Handed.{Handed}}
+use Rattle.rm_machine.specs.declared.{nature.Nature.TheVariants.{Mishap, TellsState}, state.State.{State}}
+use Rattle.rm_machine_laws.{specs.Saves.{applies}, proofs.Asking.{mishap-asks, recover-asks, repair-asks, restore-asks}}
+use Rattle.rm_report.specs.{Reply.{refused_by, said}, declared.line.{Line.{Line}, Reply.{Reply}}}
+use Rattle.rm_site.specs.{Comes.{DoesMore, HadIds}, declared.statement.Answer.{Answer, TheVariants.{Done, Told}}}
 use Rattle.rm_site.proofs.Answering.{Begins}
-use Rattle.rm_site.specs.Comes.{DoesMore, HadIds}
-use Rattle.rm_site.specs.declared.statement.Answer.{Answer}
-use Rattle.rm_site.specs.declared.statement.Answer.TheVariants.{Done, Told}
 
 -- what the state does not refuse has them
 pub mishap_ids : (c : Command) (s : State) → nature_of c ≡ Mishap → refusal_of s c ≡ None → lacks_ids s 0 ≡ false

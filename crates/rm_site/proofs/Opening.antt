@@ -1,32 +1,18 @@
 -- What opening a site finds.
-use Rattle.std.proofs.Common.{◌≡◌, ◌∙◌, List, Option, Some, None, IfSome, refl, ap, rules, sym, subst}
 use Rattle.std.specs.Prelude.{Result, Ok, Err, IfErr, IsErrAnd, IsPermutation, true, false}
-use Rattle.std.proofs.lemmas.List.Elements.{All-nil}
+use Rattle.std.proofs.{Common.{◌≡◌, ◌∙◌, List, Option, Some, None, IfSome, refl, ap, rules, sym, subst}, lemmas.List.Elements.{All-nil}}
 use Rattle.std.proofs.lemmas.List.Sorted.{IsPermutation-sym, IsPermutation-trans}
 use Rattle.rm_base.specs.Store.{Held}
-use Rattle.rm_catalog.specs.declared.catalog.CatalogFault.{CatalogFault}
-use Rattle.rm_catalog.specs.declared.catalog.CatalogFault.TheVariants.{BadRow}
-use Rattle.rm_catalog.specs.declared.catalog.CatalogFault.TheVariants as catalog
-use Rattle.rm_catalog.specs.declared.record.Record.{Record}
-use Rattle.rm_catalog.specs.Faults.{Answers, IsBadRow, IsTaken}
-use Rattle.rm_catalog.specs.Keys.{Ascends, InOrder}
-use Rattle.rm_catalog.proofs.Ascending.{loaded_in_order}
-use Rattle.rm_catalog.specs.Rules.{IsOrderOf, IsValid}
-use Rattle.rm_catalog_typed.specs.Loading.{records_in}
-use Rattle.rm_catalog_typed.specs.TypedCatalog.{TypedCatalog, all_records}
-use Rattle.rm_catalog_typed.proofs.Valid.{typed_catalog-valid}
-use Rattle.rm_evidence.specs.declared.gathering.EvidenceFault.{EvidenceFault}
-use Rattle.rm_evidence.specs.declared.gathering.EvidenceFault.TheVariants as evidence
-use Rattle.rm_machine.specs.Loading.{IsLoaded}
-use Rattle.rm_machine.specs.Machine.{Machine}
-use Rattle.rm_machine.specs.Rest.{HaveParts, IsSoundRest, IsSoundRestBy, Rest, Wakes, catalog_in}
-use Rattle.rm_machine.specs.Sound.{IsSound}
-use Rattle.rm_machine.specs.declared.state.State.{State}
-use Rattle.rm_session.proofs.Recorded.{one-catalog}
-use Rattle.rm_session.proofs.Waking.{waking-sound}
+use Rattle.rm_catalog.specs.{Faults.{Answers, IsBadRow, IsTaken}, Keys.{Ascends, InOrder}, Rules.{IsOrderOf, IsValid}}
+use Rattle.rm_catalog.specs.declared.catalog.CatalogFault.{CatalogFault, TheVariants as catalog, TheVariants.{BadRow}}
+use Rattle.rm_catalog.{specs.declared.record.Record.{Record}, proofs.Ascending.{loaded_in_order}}
+use Rattle.rm_catalog_typed.{specs.{Loading.{records_in}, TypedCatalog.{TypedCatalog, all_records}}, proofs.Valid.{typed_catalog-valid}}
+use Rattle.rm_evidence.specs.declared.gathering.EvidenceFault.{EvidenceFault, TheVariants as evidence}
+use Rattle.rm_machine.specs.{Loading.{IsLoaded}, Machine.{Machine}, Rest.{HaveParts, IsSoundRest, IsSoundRestBy, Rest, Wakes, catalog_in}}
+use Rattle.rm_machine.specs.{Sound.{IsSound}, declared.state.State.{State}}
+use Rattle.rm_session.proofs.{Recorded.{one-catalog}, Waking.{waking-sound}}
 use Rattle.rm_machine_laws.specs.Holds.{HoldsRest, View, saved_in}
-use Rattle.rm_site.specs.Faults.{IsBadFirst, fault_at, fault_in}
-use Rattle.rm_site.specs.Opens.{AreValid, Opens, Shows}
+use Rattle.rm_site.specs.{Faults.{IsBadFirst, fault_at, fault_in}, Opens.{AreValid, Opens, Shows}}
 
 -- a list of all in order is one of what was asked for
 answered : (ks rs s : List Record) → IsPermutation ks rs → IsOrderOf s rs → IsOrderOf s ks

@@ -1,21 +1,12 @@
 -- A statement that is refused or only tells leaves all as it was.
-use Rattle.std.proofs.Common.{◌≡◌, ◌∙◌, ◌&&◌, ◌||◌, not, Bool, true, false, List, Option, ap, sym, subst}
-use Rattle.std.proofs.Math.Bool.{or-false}
+use Rattle.std.proofs.{Common.{◌≡◌, ◌∙◌, ◌&&◌, ◌||◌, not, Bool, true, false, List, Option, ap, sym, subst}, Math.Bool.{or-false}}
 use Rattle.rm_base.specs.Store.{Held}
 use Rattle.rm_catalog.specs.declared.record.Record.{Record}
 use Rattle.rm_lang_statement.specs.declared.command.Command.{Command}
-use Rattle.rm_machine.specs.Laws.{only_tells}
-use Rattle.rm_machine.specs.declared.handed.Handed.{Handed}
-use Rattle.rm_machine.specs.declared.state.State.{State}
-use Rattle.rm_machine_laws.specs.Holds.{View}
-use Rattle.rm_machine_laws.specs.Saves.{applies}
-use Rattle.rm_report.specs.Reply.{said}
-use Rattle.rm_report.specs.declared.line.Line.{Line}
-use Rattle.rm_report.specs.declared.line.Reply.{Reply}
-use Rattle.rm_site.specs.Comes.{DoesMore}
-use Rattle.rm_site.specs.Untouched.{IsUntouched, is_quiet}
-use Rattle.rm_site.specs.declared.statement.Answer.{Answer}
-use Rattle.rm_site.specs.declared.statement.Answer.TheVariants.{Done}
+use Rattle.rm_machine.specs.{Laws.{only_tells}, declared.{handed.Handed.{Handed}, state.State.{State}}}
+use Rattle.rm_machine_laws.specs.{Holds.{View}, Saves.{applies}}
+use Rattle.rm_report.specs.{Reply.{said}, declared.line.{Line.{Line}, Reply.{Reply}}}
+use Rattle.rm_site.specs.{Comes.{DoesMore}, Untouched.{IsUntouched, is_quiet}, declared.statement.Answer.{Answer, TheVariants.{Done}}}
 
 -- a reply that is no refusal, to a statement that does more than tell, is not quiet
 pub not-quiet : (c : Command) (reply : Reply) (lines : List Line) → only_tells c ≡ false → reply ≡ said lines → is_quiet c reply ≡ true → ⊥

@@ -1,18 +1,11 @@
 -- What a statement comes to, where there is a database.
 use Rattle.std.specs.Prelude.{◌≡◌, true, false, Option, Some, None, All}
-use Rattle.rm_base.specs.Store.{Held}
-use Rattle.rm_base.specs.declared.refusal.Refusal.{Refusal}
+use Rattle.rm_base.specs.{Store.{Held}, declared.refusal.Refusal.{Refusal}}
 use Rattle.rm_lang_statement.specs.declared.command.Command.{Command}
 use Rattle.rm_report.specs.Reply.{IsPlain, HasDate}
-use Rattle.rm_machine.specs.Effect.{refused, told}
-use Rattle.rm_machine.specs.Hands.{Hands}
-use Rattle.rm_machine.specs.Laws.{only_tells}
-use Rattle.rm_machine.specs.Marks.{lacks_ids}
-use Rattle.rm_machine.specs.Sound.{IsSound}
-use Rattle.rm_machine.specs.declared.state.State.{State}
-use Rattle.rm_machine.specs.Step.{IsOutcome, refusal_of}
-use Rattle.rm_site.specs.declared.statement.Answer.{Answer}
-use Rattle.rm_site.specs.declared.statement.Answer.TheVariants.{Refused, Told, Done}
+use Rattle.rm_machine.specs.{Effect.{refused, told}, Hands.{Hands}, Laws.{only_tells}, Marks.{lacks_ids}, Sound.{IsSound}}
+use Rattle.rm_machine.specs.{Step.{IsOutcome, refusal_of}, declared.state.State.{State}}
+use Rattle.rm_site.specs.declared.statement.Answer.{Answer, TheVariants.{Refused, Told, Done}}
 use Rattle.rm_machine_laws.specs.Refused.{looks_at_objects}
 
 -- From the state s the statement is refused, or it only tells: then nothing changed. Or it is done, and leaves the

@@ -3,13 +3,9 @@ use Rattle.std.specs.Prelude.{ℕ, ◌≡◌, Option, Some, List}
 use Rattle.rm_base.specs.Store.{Held}
 use Rattle.rm_catalog.specs.declared.record.Record.{Record}
 use Rattle.rm_lang_statement.specs.declared.command.Command.{Command}
-use Rattle.rm_machine.specs.Effect.{LeavesObjects, Outcome, done, refused, told}
-use Rattle.rm_machine.specs.Step.{and_drops}
-use Rattle.rm_machine.specs.declared.state.State.{State}
-use Rattle.rm_machine_laws.specs.Carries.{IsOutcomeIn}
-use Rattle.rm_machine_laws.specs.Holds.{records_in}
-use Rattle.rm_report.specs.Reply.{refused_by, said}
-use Rattle.rm_report.specs.declared.line.Reply.{Reply}
+use Rattle.rm_machine.specs.{Effect.{LeavesObjects, Outcome, done, refused, told}, Step.{and_drops}, declared.state.State.{State}}
+use Rattle.rm_machine_laws.specs.{Carries.{IsOutcomeIn}, Holds.{records_in}}
+use Rattle.rm_report.specs.{Reply.{refused_by, said}, declared.line.Reply.{Reply}}
 
 -- The outcome gives this reply, and leaves this database, or none, and these objects.
 abbrev pub Gives : Option State → Outcome → Reply → Held → Option State → Held → Type 0

@@ -1,11 +1,8 @@
 -- What opening a site answers.
 use Rattle.std.specs.Prelude.{◌≡◌, Option, List, IfSome}
 use Rattle.rm_base.specs.Store.{Held}
-use Rattle.rm_catalog.specs.declared.record.Record.{Record}
-use Rattle.rm_catalog.specs.Rules.{IsOrderOf, IsValid}
-use Rattle.rm_machine.specs.Loading.{IsLoaded}
-use Rattle.rm_machine.specs.Machine.{Machine}
-use Rattle.rm_machine.specs.Rest.{PartsTell, Rest, Wakes}
+use Rattle.rm_catalog.specs.{Rules.{IsOrderOf, IsValid}, declared.record.Record.{Record}}
+use Rattle.rm_machine.specs.{Loading.{IsLoaded}, Machine.{Machine}, Rest.{PartsTell, Rest, Wakes}}
 use Rattle.rm_machine_laws.specs.Holds.{Holds, HoldsRest, Stands, View, records_in}
 
 -- the records are valid, in order

@@ -4,16 +4,9 @@ use Rattle.rm_base.specs.Store.{Held, Both}
 use Rattle.rm_catalog.specs.declared.record.Record.{Record}
 use Rattle.rm_catalog_typed.specs.TypedCatalog.{records_of}
 use Rattle.rm_commit.specs.Names.{HasPuts}
-use Rattle.rm_machine.specs.Damage.{without_damaged}
-use Rattle.rm_machine.specs.Machine.{Machine}
-use Rattle.rm_machine.specs.Marks.{lacks_ids}
-use Rattle.rm_machine.specs.Saving.{object_of, parts_of, with_ids, with_site}
-use Rattle.rm_machine.specs.State.{ledger}
-use Rattle.rm_machine.specs.declared.state.State.{State}
-use Rattle.rm_machine.specs.Rest.{Rest}
-use Rattle.rm_machine_laws.specs.Holds.{Holds, HoldsRest, records_in}
-use Rattle.rm_machine_laws.specs.Saves.{IsEnded}
-use Rattle.rm_machine_laws.specs.Stopped.{IsLeft}
+use Rattle.rm_machine.specs.{Damage.{without_damaged}, Machine.{Machine}, Marks.{lacks_ids}}
+use Rattle.rm_machine.specs.{Saving.{object_of, parts_of, with_ids, with_site}, State.{ledger}, Rest.{Rest}, declared.state.State.{State}}
+use Rattle.rm_machine_laws.specs.{Holds.{Holds, HoldsRest, records_in}, Saves.{IsEnded}, Stopped.{IsLeft}}
 use Rattle.rm_site.specs.Untouched.{AreSame}
 
 -- whatever machine it is of, where a list was applied

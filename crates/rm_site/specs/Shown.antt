@@ -1,8 +1,6 @@
 -- What a site shows of its database at the end of a session.
-use Rattle.std.specs.Prelude.{ℕ, ◌+◌, Option, length}
-use Rattle.std.specs.Option.{option_map_or}
-use Rattle.rm_machine.specs.declared.state.State.{State}
-use Rattle.rm_machine.specs.State.{ledger, now_of}
+use Rattle.std.specs.{Prelude.{ℕ, ◌+◌, Option, length}, Option.{option_map_or}}
+use Rattle.rm_machine.specs.{State.{ledger, now_of}, declared.state.State.{State}}
 
 -- the SCN that the next change takes; 0 without a database
 abbrev pub next_scn : Option State → ℕ

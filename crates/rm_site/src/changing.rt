@@ -1,11 +1,8 @@
 //! The statements that change the state, and look at nothing else.
 ghost use Rattle.std.specs.Prelude.{◌≡◌, Option, None, IfOk, OnOk, ◌≤◌, IfSome};
 ghost use Rattle.rm_base.specs.Store.{Held};
-ghost use Rattle.rm_machine.specs.Hands.{Hands};
-ghost use Rattle.rm_machine.specs.Nature.{nature_of};
+ghost use Rattle.rm_machine.specs.{Hands.{Hands}, Nature.{nature_of}, Sound.{IsSound}, Step.{IsStatement, refusal_of}};
 ghost use Rattle.rm_machine.specs.declared.nature.Nature.TheVariants.{Changes};
-ghost use Rattle.rm_machine.specs.Sound.{IsSound};
-ghost use Rattle.rm_machine.specs.Step.{IsStatement, refusal_of};
 ghost use Rattle.rm_catalog_typed.specs.Changes.{EditsFollow};
 
 use crate::channels::channel_count;

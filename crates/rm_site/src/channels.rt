@@ -1,8 +1,7 @@
 //! How many channels a statement has: BACKUP, RECOVER and its test, RECOVER COPY, RESTORE and its preview, VALIDATE ALL,
 //! REPORT OBSOLETE and NEED BACKUP, DELETE OBSOLETE.
 ghost use Rattle.std.specs.Prelude.{◌≡◌, ◌≤◌, IfSome, unwrap_or};
-ghost use Rattle.rm_machine.specs.Sound.{IsSound};
-ghost use Rattle.rm_machine.specs.State.{ledger};
+ghost use Rattle.rm_machine.specs.{Sound.{IsSound}, State.{ledger}};
 
 use rm_machine::State;
 

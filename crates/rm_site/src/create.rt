@@ -1,8 +1,7 @@
 //! CREATE DATABASE, where there is no database.
 ghost use Rattle.std.specs.Prelude.{◌≡◌, ◌≤◌, [], ◌∷◌, IfOk, IfNone, IsTrue};
 ghost use Rattle.rm_base.specs.Numbers.{last_moment};
-ghost use Rattle.rm_lang_statement.specs.declared.command.Command.TheVariants.{CreateDatabase};
-ghost use Rattle.rm_lang_statement.specs.IsCommand.{is_command};
+ghost use Rattle.rm_lang_statement.specs.{IsCommand.{is_command}, declared.command.Command.TheVariants.{CreateDatabase}};
 ghost use Rattle.rm_catalog_typed.specs.Fresh.{fresh, fresh_edits as edits_of_fresh};
 ghost use Rattle.rm_report.specs.declared.line.Line.TheVariants.{DatabaseAt};
 ghost use Rattle.rm_machine.specs.CreateDatabase.{fresh_state};

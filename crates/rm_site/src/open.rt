@@ -1,8 +1,7 @@
 //! A site is opened over a store and a keeper.
 ghost use Rattle.std.specs.Prelude.{◌≡◌, ◌≤◌, true, false, IfOk, IfErr, IfSome, IsErrOf};
 ghost use Rattle.rm_base.specs.Outside.{Rose};
-ghost use Rattle.rm_site.specs.Faults.{IsBadFirst};
-ghost use Rattle.rm_site.specs.Opens.{AreValid, Opens, Shows};
+ghost use Rattle.rm_site.specs.{Faults.{IsBadFirst}, Opens.{AreValid, Opens, Shows}};
 
 use crate::site::Site;
 use rm_base::{NoMemory, Store};

@@ -1,7 +1,6 @@
 //! Why the state alone refuses a statement.
 ghost use Rattle.std.specs.Prelude.{◌≡◌, IfOk};
-ghost use Rattle.rm_machine.specs.Sound.{IsSound};
-ghost use Rattle.rm_machine.specs.Step.{IsStatement, refusal_of};
+ghost use Rattle.rm_machine.specs.{Sound.{IsSound}, Step.{IsStatement, refusal_of}};
 
 use rm_base::{NoMemory, Refusal};
 use rm_lang_statement::Command;

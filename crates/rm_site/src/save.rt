@@ -3,10 +3,8 @@ ghost use Rattle.std.specs.Prelude.{◌≡◌, ◌≤◌, ◌⊎◌, true, false
 ghost use Rattle.rm_base.specs.Outside.{Rose};
 ghost use Rattle.rm_commit.specs.declared.commit.Stop.TheVariants.{StoreFault, KeeperFault};
 ghost use Rattle.rm_machine_laws.specs.Saves.{Saves, StopsSaving};
-ghost use Rattle.rm_machine.specs.Marks.{lacks_ids};
-ghost use Rattle.rm_machine.specs.Sound.{IsSound};
-ghost use Rattle.rm_site.specs.Saved.{EndsOut, PutsSite, SavesAt, StopsSavingAt};
-ghost use Rattle.rm_site.specs.Untouched.{AreSame};
+ghost use Rattle.rm_machine.specs.{Marks.{lacks_ids}, Sound.{IsSound}};
+ghost use Rattle.rm_site.specs.{Saved.{EndsOut, PutsSite, SavesAt, StopsSavingAt}, Untouched.{AreSame}};
 
 use crate::site::Site;
 use rm_base::{Seq, Store};

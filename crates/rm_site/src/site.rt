@@ -1,8 +1,6 @@
 //! The site: a database or none, which is stepped over a store and a keeper.
-ghost use Rattle.std.specs.Prelude.{◌≡◌, ◌+◌, IfSome, is_some, length};
-ghost use Rattle.std.specs.Option.{option_copied};
-ghost use Rattle.rm_machine.specs.Sound.{IsSound};
-ghost use Rattle.rm_machine.specs.State.{ledger};
+ghost use Rattle.std.specs.{Prelude.{◌≡◌, ◌+◌, IfSome, is_some, length}, Option.{option_copied}};
+ghost use Rattle.rm_machine.specs.{Sound.{IsSound}, State.{ledger}};
 ghost use Rattle.rm_site.specs.Shown.{next_scn, objects_in};
 
 use rm_base::Scn;

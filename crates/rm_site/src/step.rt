@@ -5,19 +5,11 @@ ghost use Rattle.rm_commit.specs.declared.commit.Stop.TheVariants.{StoreFault, K
 ghost use Rattle.rm_lang_statement.specs.IsCommand.{is_command};
 ghost use Rattle.rm_report.specs.Reply.{HasDates, IsFlagged, said};
 ghost use Rattle.rm_evidence.specs.Names.{site_name};
-ghost use Rattle.rm_machine.specs.Built.{is_built};
-ghost use Rattle.rm_machine.specs.Laws.{only_tells};
-ghost use Rattle.rm_machine.specs.Marks.{lacks_ids};
-ghost use Rattle.rm_machine.specs.Saved.{saved_names};
-ghost use Rattle.rm_machine.specs.Sound.{IsSound};
+ghost use Rattle.rm_machine.specs.{Built.{is_built}, Laws.{only_tells}, Marks.{lacks_ids}, Saved.{saved_names}, Sound.{IsSound}};
 ghost use Rattle.rm_machine.specs.Step.{IsStatement};
-ghost use Rattle.rm_machine_laws.specs.Moments.{IsMomentIn, moment_of};
-ghost use Rattle.rm_machine_laws.specs.Refused.{AnsweredBy, refusal_in};
-ghost use Rattle.rm_machine_laws.specs.Saves.{applies};
-ghost use Rattle.rm_machine_laws.specs.Steps.{DeletesSafely, IsStepAt, Steps};
-ghost use Rattle.rm_machine_laws.specs.Stopped.{Stops, IsStopAt};
-ghost use Rattle.rm_site.specs.ComesOut.{ComesOut};
-ghost use Rattle.rm_site.specs.Untouched.{AreSame, IsUntouched, is_quiet};
+ghost use Rattle.rm_machine_laws.specs.{Moments.{IsMomentIn, moment_of}, Refused.{AnsweredBy, refusal_in}, Saves.{applies}};
+ghost use Rattle.rm_machine_laws.specs.{Steps.{DeletesSafely, IsStepAt, Steps}, Stopped.{Stops, IsStopAt}};
+ghost use Rattle.rm_site.specs.{ComesOut.{ComesOut}, Untouched.{AreSame, IsUntouched, is_quiet}};
 
 use crate::create::{first_records, lines_of, new_database, refusal_without};
 use crate::moment::moment_of;

@@ -2,9 +2,7 @@
 ghost use Rattle.std.specs.Prelude.{◌≡◌, ◌≤◌, None, IfOk, IfSome, IsErrOf, OnOk};
 ghost use Rattle.rm_base.specs.Outside.{Rose};
 ghost use Rattle.rm_commit.specs.declared.commit.Stop.TheVariants.{StoreFault, KeeperFault};
-ghost use Rattle.rm_machine.specs.RecoverCopy.{recover_copy_refusal};
-ghost use Rattle.rm_machine.specs.Sound.{IsSound};
-ghost use Rattle.rm_machine.specs.Step.{IsStatement};
+ghost use Rattle.rm_machine.specs.{RecoverCopy.{recover_copy_refusal}, Sound.{IsSound}, Step.{IsStatement}};
 ghost use Rattle.rm_catalog_typed.specs.Changes.{EditsFollow};
 ghost use Rattle.rm_site.specs.Comes.{IsAnswer};
 ghost use Rattle.rm_lang_statement.specs.declared.command.Command.TheVariants.{RecoverCopy};

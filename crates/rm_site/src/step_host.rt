@@ -2,10 +2,7 @@
 ghost use Rattle.std.specs.Prelude.{◌≡◌, ◌≤◌, None, IfOk, IsErrOf};
 ghost use Rattle.rm_base.specs.Outside.{Rose};
 ghost use Rattle.rm_commit.specs.declared.commit.Stop.TheVariants.{StoreFault, KeeperFault};
-ghost use Rattle.rm_machine.specs.Nature.{nature_of};
-ghost use Rattle.rm_machine.specs.declared.nature.Nature.TheVariants.{Mishap};
-ghost use Rattle.rm_machine.specs.Sound.{IsSound};
-ghost use Rattle.rm_machine.specs.Step.{refusal_of};
+ghost use Rattle.rm_machine.specs.{Nature.{nature_of}, Sound.{IsSound}, Step.{refusal_of}, declared.nature.Nature.TheVariants.{Mishap}};
 ghost use Rattle.rm_site.specs.Comes.{IsAnswer};
 
 use crate::statement::Answer;

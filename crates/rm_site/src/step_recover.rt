@@ -3,9 +3,7 @@ ghost use Rattle.std.specs.Prelude.{◌≡◌, ◌≤◌, None, IfOk, IfSome, Is
 ghost use Rattle.rm_base.specs.Outside.{Rose};
 ghost use Rattle.rm_commit.specs.declared.commit.Stop.TheVariants.{StoreFault, KeeperFault};
 ghost use Rattle.rm_lang_statement.specs.declared.command.Command.TheVariants.{Preview, Recover, RecoverTest, Restore};
-ghost use Rattle.rm_machine.specs.Recover.{recover_refusal};
-ghost use Rattle.rm_machine.specs.RecoverTest.{test_refusal};
-ghost use Rattle.rm_machine.specs.Restore.{preview_refusal, restore_refusal};
+ghost use Rattle.rm_machine.specs.{Recover.{recover_refusal}, RecoverTest.{test_refusal}, Restore.{preview_refusal, restore_refusal}};
 ghost use Rattle.rm_machine.specs.Sound.{IsSound};
 ghost use Rattle.rm_site.specs.Comes.{IsAnswer};
 

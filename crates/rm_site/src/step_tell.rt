@@ -1,14 +1,10 @@
 //! The statements that tell: of the state alone, and VALIDATE ALL, which looks at the objects of records.
 ghost use Rattle.std.specs.Prelude.{◌≡◌, Option, None, All, IfOk, IfSome, ◌≤◌, IsErrOf};
-ghost use Rattle.rm_base.specs.Store.{Held};
-ghost use Rattle.rm_machine.specs.Hands.{Tells};
-ghost use Rattle.rm_machine.specs.Nature.{nature_of};
+ghost use Rattle.rm_base.specs.{Store.{Held}, Outside.{Rose}};
+ghost use Rattle.rm_machine.specs.{Hands.{Tells}, Nature.{nature_of}, Sound.{IsSound}, Step.{refusal_of}};
 ghost use Rattle.rm_machine.specs.declared.nature.Nature.TheVariants.{TellsState};
-ghost use Rattle.rm_machine.specs.Sound.{IsSound};
-ghost use Rattle.rm_machine.specs.Step.{refusal_of};
 ghost use Rattle.rm_report.specs.Reply.{IsPlain};
 ghost use Rattle.rm_site.specs.Comes.{IsAnswer};
-ghost use Rattle.rm_base.specs.Outside.{Rose};
 ghost use Rattle.rm_commit.specs.declared.commit.Stop.TheVariants.{StoreFault, KeeperFault};
 ghost use Rattle.rm_lang_statement.specs.declared.command.Command.TheVariants.{ValidateAll};
 

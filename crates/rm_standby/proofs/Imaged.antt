@@ -1,35 +1,16 @@
 -- An image of states holds the states, and is a valid set.
+use Rattle.std.specs.{List.{sum_by}, Option.{option_map_or}, Prelude.{Contains}}
 use Rattle.std.proofs.Common.{◌≡◌, ◌∙◌, ◌+◌, ◌^◌, ◌<◌, ◌≤◌, ℕ, zero, suc, List, [], ◌∷◌, Bool, true, false, nat_lt, if◌then◌else◌, inl, inr, refl, ap, sym, subst, arith, get_or, length, map, take, All}
-use Rattle.std.specs.List.{sum_by}
-use Rattle.std.specs.Option.{option_map_or}
-use Rattle.std.specs.Prelude.{Contains}
-use Rattle.std.proofs.lemmas.Bool.Decides.{nat_tests}
-use Rattle.std.proofs.lemmas.List.{get_or-map, length-map}
-use Rattle.std.proofs.lemmas.List.Elements.{All-contains, All-map}
-use Rattle.std.proofs.lemmas.List.Sums.{sum_by-cons}
+use Rattle.std.proofs.lemmas.{Bool.Decides.{nat_tests}, List.{get_or-map, length-map, Elements.{All-contains, All-map}, Sums.{sum_by-cons}}}
 use Rattle.std.proofs.lemmas.Option.{slice_get-get_or}
-use Rattle.rm_base.specs.Created.{created_row}
-use Rattle.rm_base.specs.Numbers.{last_scn}
-use Rattle.rm_base.specs.declared.block.Change.{Change}
-use Rattle.rm_base.specs.declared.block.Row.{Row}
-use Rattle.rm_base.proofs.Lists.{map_from, map_to}
-use Rattle.rm_base.proofs.Members.{first-or-rest, none-in}
+use Rattle.rm_base.specs.{Created.{created_row}, Numbers.{last_scn}, declared.block.{Change.{Change}, Row.{Row}}}
+use Rattle.rm_base.proofs.{Lists.{map_from, map_to}, Members.{first-or-rest, none-in}}
 use Rattle.rm_blocks.specs.File.{File, IsInOrder}
-use Rattle.rm_history.specs.Agrees.{IsRow as IsRead}
-use Rattle.rm_history.specs.declared.world.Datafile.{Datafile}
-use Rattle.rm_history.specs.declared.world.World.{World}
-use Rattle.rm_history.specs.History.{IsHistory}
-use Rattle.rm_history.specs.State.{rows_from, state, states}
-use Rattle.rm_history.specs.World.{creation_of}
-use Rattle.rm_history.proofs.States.{both-hold}
-use Rattle.rm_piece.specs.declared.set.SetFile.{SetFile}
-use Rattle.rm_piece.specs.Filling.{risen}
-use Rattle.rm_piece.specs.Rows.{IsWhole}
-use Rattle.rm_piece.specs.Sets.{blocks_in, IsMember, IsSet}
-use Rattle.rm_piece.specs.Valid.{IsRow}
-use Rattle.rm_piece.proofs.Risen.{risen-since, risen-whole, states-same}
-use Rattle.rm_standby.specs.Image.{creation_in, imaged, imaged_member, AreStates, CanImage, StandsAt}
-use Rattle.rm_standby.specs.Standby.{HoldsStates, IsTaken}
+use Rattle.rm_history.specs.{Agrees.{IsRow as IsRead}, History.{IsHistory}, State.{rows_from, state, states}, World.{creation_of}}
+use Rattle.rm_history.{specs.declared.world.{Datafile.{Datafile}, World.{World}}, proofs.States.{both-hold}}
+use Rattle.rm_piece.specs.{Filling.{risen}, Rows.{IsWhole}, Sets.{blocks_in, IsMember, IsSet}, Valid.{IsRow}}
+use Rattle.rm_piece.{specs.declared.set.SetFile.{SetFile}, proofs.Risen.{risen-since, risen-whole, states-same}}
+use Rattle.rm_standby.specs.{Image.{creation_in, imaged, imaged_member, AreStates, CanImage, StandsAt}, Standby.{HoldsStates, IsTaken}}
 
 -- ---- an image of states
 

@@ -1,27 +1,14 @@
 -- The members of a rolled standby are valid.
+use Rattle.std.specs.{Prelude.{IfSome, IsSomeAnd}, List.{AllPairs}}
 use Rattle.std.proofs.Common.{◌≡◌, ◌≢◌, ◌∙◌, ◌+◌, ◌<◌, ◌≤◌, ℕ, zero, suc, List, [], ◌∷◌, Option, Some, None, Bool, true, false, cond, eqb, inl, inr, refl, ap, sym, subst, arith, length, get_or, map, Contains, All}
-use Rattle.std.specs.Prelude.{IfSome, IsSomeAnd}
-use Rattle.std.specs.List.{AllPairs}
-use Rattle.std.proofs.lemmas.Bool.{cases_lt, eqb-true}
-use Rattle.std.proofs.lemmas.List.{get_or-map, get_or_default, length-map}
-use Rattle.std.proofs.lemmas.List.Elements.{All-cons, All-contains, All-map, All-nil, All-tail, Contains-get_or}
-use Rattle.std.proofs.lemmas.List.Sums.{sum_by-cons}
-use Rattle.rm_base.specs.Content.{zero_block}
-use Rattle.rm_base.specs.Created.{created_row}
-use Rattle.rm_base.specs.Numbers.{last_scn}
-use Rattle.rm_base.specs.declared.block.Row.{Row}
-use Rattle.rm_base.specs.declared.kinds.Kind.TheVariants.{Level1}
-use Rattle.rm_base.proofs.Lists.{find_cases}
+use Rattle.std.proofs.lemmas.{Bool.{cases_lt, eqb-true}, List.{get_or-map, get_or_default, length-map}}
+use Rattle.std.proofs.lemmas.List.{Elements.{All-cons, All-contains, All-map, All-nil, All-tail, Contains-get_or}, Sums.{sum_by-cons}}
+use Rattle.rm_base.specs.{Content.{zero_block}, Created.{created_row}, Numbers.{last_scn}, declared.block.Row.{Row}}
+use Rattle.rm_base.{specs.declared.kinds.Kind.TheVariants.{Level1}, proofs.Lists.{find_cases}}
 use Rattle.rm_history.specs.State.{rows_from}
-use Rattle.rm_piece.specs.declared.set.Set.{Set}
-use Rattle.rm_piece.specs.declared.set.SetFile.{SetFile}
-use Rattle.rm_piece.specs.Filling.{next_left, next_or, over}
-use Rattle.rm_piece.specs.Rows.{IsWhole}
-use Rattle.rm_piece.specs.Sets.{blocks_in, IsBeforeMember, IsMember, IsSet, IsSince}
-use Rattle.rm_piece.specs.Valid.{IsBefore, IsRow}
-use Rattle.rm_piece.proofs.Fitting.{few_rows}
-use Rattle.rm_piece.proofs.SetFitting.{moved}
-use Rattle.rm_piece.proofs.Whole.{full, placed}
+use Rattle.rm_piece.specs.{Filling.{next_left, next_or, over}, Rows.{IsWhole}, Sets.{blocks_in, IsBeforeMember, IsMember, IsSet, IsSince}}
+use Rattle.rm_piece.{specs.{Valid.{IsBefore, IsRow}, declared.set.{Set.{Set}, SetFile.{SetFile}}}, proofs.Fitting.{few_rows}}
+use Rattle.rm_piece.proofs.{SetFitting.{moved}, Whole.{full, placed}}
 use Rattle.rm_standby.specs.Rolling.{full_member, member_at, old_rows, rolled, rolled_member, IsSameFile}
 
 -- ---- rows over rows

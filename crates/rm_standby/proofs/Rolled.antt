@@ -1,26 +1,13 @@
 -- A rolled standby holds the states at the increment's address.
-use Rattle.std.proofs.Common.{◌≡◌, ◌∙◌, ◌+◌, ◌<◌, ◌≤◌, ℕ, zero, suc, List, [], ◌∷◌, Option, Some, Bool, true, false, cond, eqb, nat_le, inl, inr, refl, ap, sym, subst, arith, length, filter, All}
 use Rattle.std.specs.Prelude.{IsSomeAnd, IfNone, slice_get}
-use Rattle.std.proofs.lemmas.Bool.{eqb-true}
-use Rattle.std.proofs.lemmas.Bool.Decides.{nat_tests}
-use Rattle.std.proofs.lemmas.List.Elements.{All-contains}
+use Rattle.std.proofs.Common.{◌≡◌, ◌∙◌, ◌+◌, ◌<◌, ◌≤◌, ℕ, zero, suc, List, [], ◌∷◌, Option, Some, Bool, true, false, cond, eqb, nat_le, inl, inr, refl, ap, sym, subst, arith, length, filter, All}
+use Rattle.std.proofs.lemmas.{Bool.{eqb-true, Decides.{nat_tests}}, List.Elements.{All-contains}}
 use Rattle.std.proofs.lemmas.List.Sums.{length-filter, count_by-le-length}
-use Rattle.rm_base.specs.Created.{created_row}
-use Rattle.rm_base.specs.declared.block.Change.{Change}
-use Rattle.rm_base.specs.declared.block.Row.{Row}
-use Rattle.rm_base.proofs.Lists.{find_cases, map_from, map_to}
-use Rattle.rm_history.specs.declared.world.Datafile.{Datafile}
-use Rattle.rm_history.specs.declared.world.World.{World}
-use Rattle.rm_history.specs.History.{IsHistory}
-use Rattle.rm_history.specs.State.{concerns, rows_from, state, states, IsState}
-use Rattle.rm_history.specs.Tree.{IsTree, owner}
-use Rattle.rm_history.specs.World.{file_of}
-use Rattle.rm_history.proofs.Segments.{is_within_alike}
+use Rattle.rm_base.{specs.{Created.{created_row}, declared.block.{Change.{Change}, Row.{Row}}}, proofs.Lists.{find_cases, map_from, map_to}}
+use Rattle.rm_history.specs.{History.{IsHistory}, State.{concerns, rows_from, state, states, IsState}, Tree.{IsTree, owner}}
+use Rattle.rm_history.{specs.{World.{file_of}, declared.world.{Datafile.{Datafile}, World.{World}}}, proofs.Segments.{is_within_alike}}
 use Rattle.rm_history.proofs.States.{concerns-from, concerns-parts, state-held, state-one}
-use Rattle.rm_piece.specs.declared.set.Set.{Set}
-use Rattle.rm_piece.specs.declared.set.SetFile.{SetFile}
-use Rattle.rm_piece.specs.Filling.{over}
-use Rattle.rm_piece.specs.Rows.{from_on}
+use Rattle.rm_piece.specs.{Filling.{over}, Rows.{from_on}, declared.set.{Set.{Set}, SetFile.{SetFile}}}
 use Rattle.rm_piece.proofs.Filled.{over-back, AreBack}
 use Rattle.rm_standby.specs.Rolling.{member_at, old_rows, rolled, rolled_member, BeginsBy, Meets}
 use Rattle.rm_standby.specs.Standby.{HoldsSince, HoldsStates, IsTaken}

@@ -1,20 +1,11 @@
 -- A standby of datafiles that stand at one address.
 use Rattle.std.specs.Prelude.{ℕ, ◌≡◌, ◌<◌, ◌≤◌, ◌-◌, ◌==◌, ◌^◌, if◌then◌else◌, List, Some, None, true, length, map, slice_get, All, AllPairs, Contains}
-use Rattle.std.specs.List.{sum_by}
-use Rattle.std.specs.Option.{option_map_or}
-use Rattle.rm_base.specs.Numbers.{last_scn}
-use Rattle.rm_base.specs.declared.block.Change.{Change}
-use Rattle.rm_base.specs.declared.kinds.Kind.TheVariants.{Full}
+use Rattle.std.specs.{List.{sum_by}, Option.{option_map_or}}
+use Rattle.rm_base.specs.{Numbers.{last_scn}, declared.{block.Change.{Change}, kinds.Kind.TheVariants.{Full}}}
 use Rattle.rm_blocks.specs.File.{File, IsInOrder}
-use Rattle.rm_history.specs.declared.world.Datafile.{Datafile}
-use Rattle.rm_history.specs.declared.world.World.{World}
-use Rattle.rm_history.specs.Artefacts.{high_of}
-use Rattle.rm_history.specs.State.{states}
-use Rattle.rm_history.specs.Tree.{IsThere}
-use Rattle.rm_history.specs.World.{creation_of, exists, file_of}
-use Rattle.rm_piece.specs.declared.set.Set.{Set}
-use Rattle.rm_piece.specs.declared.set.SetFile.{SetFile}
-use Rattle.rm_piece.specs.Filling.{risen}
+use Rattle.rm_history.specs.{Artefacts.{high_of}, State.{states}, Tree.{IsThere}, World.{creation_of, exists, file_of}}
+use Rattle.rm_history.specs.declared.world.{Datafile.{Datafile}, World.{World}}
+use Rattle.rm_piece.specs.{Filling.{risen}, declared.set.{Set.{Set}, SetFile.{SetFile}}}
 
 -- the SCN at which the datafile of this number was created; 0 for one that is not listed
 abbrev pub creation_in : List Datafile → ℕ → ℕ

@@ -1,17 +1,9 @@
 -- A standby that takes over an increment.
 use Rattle.std.specs.Prelude.{ℕ, ◌≡◌, ◌≢◌, ◌≤◌, ◌==◌, not, IsTrue, IsSomeAnd, IfNone, Bool, true, Option, Some, None, List, map, find, length, count_by, slice_get, All}
-use Rattle.std.specs.List.{sum_by}
-use Rattle.std.specs.Str.{bytes_eq}
-use Rattle.rm_base.specs.Created.{created_row}
-use Rattle.rm_base.specs.declared.block.Row.{Row}
-use Rattle.rm_base.specs.declared.kinds.Kind.TheVariants.{Full, Level1}
-use Rattle.rm_history.specs.declared.tree.Incarnation.{Incarnation}
-use Rattle.rm_history.specs.Artefacts.{high_of}
-use Rattle.rm_history.specs.State.{rows_from}
-use Rattle.rm_history.specs.Tree.{IsThere, is_within}
-use Rattle.rm_piece.specs.declared.set.Set.{Set}
-use Rattle.rm_piece.specs.declared.set.SetFile.{SetFile}
-use Rattle.rm_piece.specs.Filling.{over}
+use Rattle.std.specs.{List.{sum_by}, Str.{bytes_eq}}
+use Rattle.rm_base.specs.{Created.{created_row}, declared.{block.Row.{Row}, kinds.Kind.TheVariants.{Full, Level1}}}
+use Rattle.rm_history.specs.{Artefacts.{high_of}, State.{rows_from}, Tree.{IsThere, is_within}, declared.tree.Incarnation.{Incarnation}}
+use Rattle.rm_piece.specs.{Filling.{over}, declared.set.{Set.{Set}, SetFile.{SetFile}}}
 
 -- the member of a datafile
 abbrev pub member_at : List SetFile → ℕ → Option SetFile

@@ -1,17 +1,8 @@
 -- A set that holds what a history made of each datafile at one address.
-use Rattle.std.specs.Prelude.{ℕ, ◌≡◌, Bool, List, Some, true, false, All, Contains}
-use Rattle.std.specs.List.{list_all}
-use Rattle.rm_base.specs.declared.block.Change.{Change}
-use Rattle.rm_base.specs.declared.block.Row.{Row}
-use Rattle.rm_base.specs.declared.kinds.Kind.{Kind}
-use Rattle.rm_base.specs.declared.kinds.Kind.TheVariants.{Full, Level0, Level1, Place}
-use Rattle.rm_history.specs.declared.world.Datafile.{Datafile}
-use Rattle.rm_history.specs.declared.world.World.{World}
-use Rattle.rm_history.specs.State.{states}
-use Rattle.rm_history.specs.World.{exists, file_of}
-use Rattle.rm_piece.specs.declared.set.Set.{Set}
-use Rattle.rm_piece.specs.declared.set.SetFile.{SetFile}
-use Rattle.rm_piece.specs.Rows.{from_on}
+use Rattle.std.specs.{Prelude.{ℕ, ◌≡◌, Bool, List, Some, true, false, All, Contains}, List.{list_all}}
+use Rattle.rm_base.specs.declared.{block.{Change.{Change}, Row.{Row}}, kinds.Kind.{Kind, TheVariants.{Full, Level0, Level1, Place}}}
+use Rattle.rm_history.specs.{State.{states}, World.{exists, file_of}, declared.world.{Datafile.{Datafile}, World.{World}}}
+use Rattle.rm_piece.specs.{Rows.{from_on}, declared.set.{Set.{Set}, SetFile.{SetFile}}}
 
 -- The member is of a datafile that exists at (i, s), and has those of its states there that are picked.
 pub record IsTaken (w : World) (h : List Change) (i s : ℕ) (pick : List Row → List Row) (m : SetFile) : Type 0 where

@@ -1,12 +1,9 @@
 //! A standby of datafiles that stand at one address.
 ghost use Rattle.std.specs.Prelude.{◌≡◌, ◌<◌, ◌≤◌, List, IfOk, All, length};
-ghost use Rattle.rm_base.specs.Numbers.{last_scn};
-ghost use Rattle.rm_base.specs.declared.block.Change.{Change};
-ghost use Rattle.rm_history.specs.declared.world.World.{World};
-ghost use Rattle.rm_history.specs.History.{IsHistory};
+ghost use Rattle.rm_base.specs.{Numbers.{last_scn}, declared.block.Change.{Change}};
+ghost use Rattle.rm_history.specs.{History.{IsHistory}, declared.world.World.{World}};
 ghost use Rattle.rm_piece.specs.Sets.{IsSet};
-ghost use Rattle.rm_standby.specs.Image.{creation_in, imaged, imaged_member, AreStates, CanImage};
-ghost use Rattle.rm_standby.specs.Standby.{HoldsStates};
+ghost use Rattle.rm_standby.specs.{Image.{creation_in, imaged, imaged_member, AreStates, CanImage}, Standby.{HoldsStates}};
 
 use rm_base::{FileNo, IncNo, Kind, NoMemory, Scn, Seq};
 use rm_blocks::DataFile;

@@ -1,9 +1,7 @@
 //! Whether an increment meets a standby.
-ghost use Rattle.std.specs.Prelude.{◌≡◌, ◌≢◌, ◌↔◌, ◌≤◌, IsTrue, IsSomeAnd, IfNone, All, length, slice_get};
-ghost use Rattle.std.specs.Option.{option_copied};
+ghost use Rattle.std.specs.{Prelude.{◌≡◌, ◌≢◌, ◌↔◌, ◌≤◌, IsTrue, IsSomeAnd, IfNone, All, length, slice_get}, Option.{option_copied}};
 ghost use Rattle.rm_base.specs.declared.kinds.Kind.TheVariants.{Level1};
-ghost use Rattle.rm_standby.specs.Standby.{has_all, is_standby};
-ghost use Rattle.rm_standby.specs.Rolling.{member_at, BeginsBy, IsSameFile, Meets};
+ghost use Rattle.rm_standby.specs.{Standby.{has_all, is_standby}, Rolling.{member_at, BeginsBy, IsSameFile, Meets}};
 
 use rm_base::Kind;
 use rm_history::Tree;

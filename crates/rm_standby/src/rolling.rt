@@ -1,16 +1,9 @@
 //! A standby that takes over an increment.
 ghost use Rattle.std.specs.Prelude.{ℕ, ◌≡◌, ◌≢◌, ◌↔◌, ◌<◌, ◌≤◌, List, IfOk, IfSome, IsErrOf, All, length, map};
-ghost use Rattle.rm_base.specs.Created.{created_row};
-ghost use Rattle.rm_base.specs.Numbers.{last_scn};
-ghost use Rattle.rm_base.specs.declared.block.Change.{Change};
+ghost use Rattle.rm_base.specs.{Created.{created_row}, Numbers.{last_scn}, declared.block.Change.{Change}};
 ghost use Rattle.rm_base.specs.declared.kinds.Kind.TheVariants.{Level1};
-ghost use Rattle.rm_history.specs.declared.world.World.{World};
-ghost use Rattle.rm_history.specs.History.{IsHistory};
-ghost use Rattle.rm_history.specs.State.{rows_from};
-ghost use Rattle.rm_history.specs.Tree.{IsTree};
-ghost use Rattle.rm_piece.specs.Filling.{over};
-ghost use Rattle.rm_piece.specs.Rows.{IsWhole};
-ghost use Rattle.rm_piece.specs.Sets.{IsMember, IsSet};
+ghost use Rattle.rm_history.specs.{History.{IsHistory}, State.{rows_from}, Tree.{IsTree}, declared.world.World.{World}};
+ghost use Rattle.rm_piece.specs.{Filling.{over}, Rows.{IsWhole}, Sets.{IsMember, IsSet}};
 ghost use Rattle.rm_standby.specs.Rolling.{changed, changed_in, full_member, is_other, member_at, old_rows, rolled, rolled_member, row_at, IsSameFile, Meets};
 ghost use Rattle.rm_standby.specs.Standby.{HoldsSince, HoldsStates};
 

@@ -1,42 +1,19 @@
 -- Where it begins: an increment of a statement, a standby that is made, and one that is rolled.
 use Rattle.std.proofs.Common.{◌≡◌, ◌≤◌, ◌∙◌, inl, inr, ℕ, List, Option, Some, None, true, false, refl, ap, sym, subst, arith, All}
-use Rattle.std.proofs.lemmas.Bool.{cases_lt}
-use Rattle.std.proofs.lemmas.List.Elements.{All-map}
-use Rattle.rm_base.specs.Store.{Held}
-use Rattle.rm_base.specs.declared.block.Change.{Change}
-use Rattle.rm_base.specs.declared.refusal.Refusal.{Refusal}
-use Rattle.rm_base.proofs.Conditions.{unless}
+use Rattle.std.proofs.lemmas.{Bool.{cases_lt}, List.Elements.{All-map}}
+use Rattle.rm_base.{specs.{Store.{Held}, declared.{block.Change.{Change}, refusal.Refusal.{Refusal}}}, proofs.Conditions.{unless}}
 use Rattle.rm_blocks.specs.File.{File}
-use Rattle.rm_history.specs.declared.tree.Incarnation.{Incarnation}
-use Rattle.rm_history.specs.History.{IsHistory}
-use Rattle.rm_history.specs.Tree.{IsTree, parent_of, reset_of}
-use Rattle.rm_catalog_typed.specs.LedgerFacts.{AreIncarnations}
-use Rattle.rm_catalog_typed.proofs.Trees.{parents_below}
-use Rattle.rm_piece.specs.declared.set.Set.{Set}
-use Rattle.rm_piece.specs.declared.set.SetFile.{SetFile}
-use Rattle.rm_piece.specs.Rows.{from_on}
-use Rattle.rm_piece.specs.Sets.{IsSet}
-use Rattle.rm_standby.specs.Image.{imaged}
-use Rattle.rm_standby.specs.Rolling.{Meets, rolled}
-use Rattle.rm_standby.specs.Standby.{HoldsSince, HoldsStates}
-use Rattle.rm_standby.proofs.Rolled.{rolled-holds}
-use Rattle.rm_lang_statement.specs.declared.command.Command.TheVariants.{BackupFrom}
-use Rattle.rm_lang_statement.specs.declared.command.Until.TheVariants.{Scn}
-use Rattle.rm_report.specs.declared.line.Line.{Line}
-use Rattle.rm_report.specs.declared.line.Reply.{Reply}
-use Rattle.rm_machine.specs.Effect.{Outcome, done, refused, told}
-use Rattle.rm_machine.specs.Laws.{IsMomentOf}
-use Rattle.rm_machine.specs.Machine.{IsBorneOut, IsSoundBy, IsSoundMachine, Machine}
-use Rattle.rm_machine.specs.RecoverTest.{is_no_incarnation, test_refusal}
-use Rattle.rm_machine.specs.Rest.{catalog_in}
-use Rattle.rm_machine.specs.Roll.{increment, roll_member, roll_refusal, rolled_files}
-use Rattle.rm_machine.specs.Sound.{IsSound}
-use Rattle.rm_machine.specs.State.{at_moment, current_of, ledger, tree, world}
-use Rattle.rm_machine.specs.Step.{IsOutcome, IsOutcomeBy, Step, StepBy, StepIn}
-use Rattle.rm_machine.specs.declared.state.State.{State}
-use Rattle.rm_machine.proofs.Later.{sound-later}
-use Rattle.rm_machine.proofs.Recovering.{in-range}
-use Rattle.rm_machine.proofs.Rolling.{increment-valid}
+use Rattle.rm_history.specs.{History.{IsHistory}, Tree.{IsTree, parent_of, reset_of}, declared.tree.Incarnation.{Incarnation}}
+use Rattle.rm_catalog_typed.{specs.LedgerFacts.{AreIncarnations}, proofs.Trees.{parents_below}}
+use Rattle.rm_piece.specs.{Rows.{from_on}, Sets.{IsSet}, declared.set.{Set.{Set}, SetFile.{SetFile}}}
+use Rattle.rm_standby.{specs.{Image.{imaged}, Rolling.{Meets, rolled}, Standby.{HoldsSince, HoldsStates}}, proofs.Rolled.{rolled-holds}}
+use Rattle.rm_lang_statement.specs.declared.command.{Command.TheVariants.{BackupFrom}, Until.TheVariants.{Scn}}
+use Rattle.rm_report.specs.declared.line.{Line.{Line}, Reply.{Reply}}
+use Rattle.rm_machine.specs.{Effect.{Outcome, done, refused, told}, Laws.{IsMomentOf}}
+use Rattle.rm_machine.specs.{Machine.{IsBorneOut, IsSoundBy, IsSoundMachine, Machine}, RecoverTest.{is_no_incarnation, test_refusal}}
+use Rattle.rm_machine.specs.{Rest.{catalog_in}, Roll.{increment, roll_member, roll_refusal, rolled_files}, Sound.{IsSound}}
+use Rattle.rm_machine.specs.{State.{at_moment, current_of, ledger, tree, world}, Step.{IsOutcome, IsOutcomeBy, Step, StepBy, StepIn}}
+use Rattle.rm_machine.{specs.declared.state.State.{State}, proofs.{Later.{sound-later}, Recovering.{in-range}, Rolling.{increment-valid}}}
 use Rattle.rm_machine_laws.proofs.Leading.{done-by}
 use Rattle.rm_standby_laws.specs.Lasting.{HoldsIn, HoldsOf, IsHeld, LiesWithin}
 

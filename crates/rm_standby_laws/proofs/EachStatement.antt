@@ -7,37 +7,18 @@ use Rattle.rm_lang_statement.specs.declared.command.RepairForm.{RepairForm}
 use Rattle.rm_redo.specs.declared.log_file.LogFile.{LogFile}
 use Rattle.rm_evidence.specs.declared.evidence.Evidence.{Evidence}
 use Rattle.rm_report.specs.declared.line.Line.{Line}
-use Rattle.rm_machine.specs.BackupLogs.{copies_of, copies_refusal, with_copies}
-use Rattle.rm_machine.specs.Archive.{after_all}
-use Rattle.rm_machine.specs.BackupOutcome.{at_end, begun}
+use Rattle.rm_machine.specs.{BackupLogs.{copies_of, copies_refusal, with_copies}, Archive.{after_all}, BackupOutcome.{at_end, begun}}
 use Rattle.rm_machine.specs.BlockRecover.{MendsBlocks, MissesBlock, repair_begun, without_mended}
-use Rattle.rm_machine.specs.Configure.{policy_of, with_channels, with_policy}
-use Rattle.rm_machine.specs.Corrupt.{corrupted, with_damage}
-use Rattle.rm_machine.specs.Damage.{has_block, without_damaged}
-use Rattle.rm_machine.specs.DisableThread.{with_thread_off}
-use Rattle.rm_machine.specs.Effect.{Effect, done}
-use Rattle.rm_machine.specs.EnableThread.{with_thread_on}
-use Rattle.rm_machine.specs.Events.{after_events}
-use Rattle.rm_machine.specs.LoseDatafile.{without_file}
-use Rattle.rm_machine.specs.LoseLog.{without_log}
-use Rattle.rm_machine.specs.MadeObjects.{after_objects, packed}
-use Rattle.rm_machine.specs.Mishaps.{cut_by, damage_by, remove_by, rename_by}
-use Rattle.rm_machine.specs.Mount.{as_mounted}
-use Rattle.rm_machine.specs.Open.{opened}
-use Rattle.rm_machine.specs.Recover.{RecoversTo, recover_target, recovered}
-use Rattle.rm_machine.specs.RecoverCopy.{RenewsTo, after_copies, renewed_refusal}
-use Rattle.rm_machine.specs.RecoverTest.{TestsTo, test_target, tested}
-use Rattle.rm_machine.specs.ResetDatabase.{at_incarnation}
-use Rattle.rm_machine.specs.Restore.{PreviewsTo, RestoresTo, restored}
-use Rattle.rm_machine.specs.Roll.{after_roll}
-use Rattle.rm_machine.specs.Sound.{IsSound}
-use Rattle.rm_machine.specs.SwitchLogfile.{is_due, with_archived}
-use Rattle.rm_machine.specs.Tracking.{with_tracking}
-use Rattle.rm_machine.specs.Upkeep.{changed_to, with_catalog, with_statuses, without_all, without_record}
-use Rattle.rm_machine.specs.Write.{with_write}
-use Rattle.rm_machine.specs.declared.state.State.{State}
-use Rattle.rm_machine.specs.State.{ledger, now_of}
-use Rattle.rm_machine.specs.Step.{IsDone}
+use Rattle.rm_machine.specs.{Configure.{policy_of, with_channels, with_policy}, Corrupt.{corrupted, with_damage}}
+use Rattle.rm_machine.specs.{Damage.{has_block, without_damaged}, DisableThread.{with_thread_off}, Effect.{Effect, done}}
+use Rattle.rm_machine.specs.{EnableThread.{with_thread_on}, Events.{after_events}, LoseDatafile.{without_file}, LoseLog.{without_log}}
+use Rattle.rm_machine.specs.{MadeObjects.{after_objects, packed}, Mishaps.{cut_by, damage_by, remove_by, rename_by}, Mount.{as_mounted}}
+use Rattle.rm_machine.specs.{Open.{opened}, Recover.{RecoversTo, recover_target, recovered}}
+use Rattle.rm_machine.specs.{RecoverCopy.{RenewsTo, after_copies, renewed_refusal}, RecoverTest.{TestsTo, test_target, tested}}
+use Rattle.rm_machine.specs.{ResetDatabase.{at_incarnation}, Restore.{PreviewsTo, RestoresTo, restored}, Roll.{after_roll}, Sound.{IsSound}}
+use Rattle.rm_machine.specs.{SwitchLogfile.{is_due, with_archived}, Tracking.{with_tracking}}
+use Rattle.rm_machine.specs.{Upkeep.{changed_to, with_catalog, with_statuses, without_all, without_record}, Write.{with_write}}
+use Rattle.rm_machine.specs.{State.{ledger, now_of}, Step.{IsDone}, declared.state.State.{State}}
 use Rattle.rm_standby_laws.proofs.Growing.{Grows, accepted-quiet, all-core, archived-core, branch-grows, catalog-grows, change-core, chosen-grows, copies-core, core, created-grows, events-grow, further-grows, logs-core, mounted-core, objects-core, off-grows, quiet, statuses-core, switched-quiet, unless-quiet}
 
 -- HOST leaves the database as it is

@@ -1,50 +1,29 @@
 -- Each statement leaves the incarnations and the datafiles that there are, and a new datafile is created at the end of its incarnation.
+use Rattle.std.specs.{Prelude.{MatchOption}, Option.{option_map_or}}
 use Rattle.std.proofs.Common.{◌≡◌, ◌+◌, ◌-◌, ◌∙◌, ◌++◌, ◌⊎◌, ◌==◌, inl, inr, max, ℕ, zero, suc, List, [], ◌∷◌, Option, Some, None, Ok, Err, IsSomeAnd, Bool, true, false, cond, refl, ap, sym, subst, arith, slice_get}
-use Rattle.std.specs.Prelude.{MatchOption}
-use Rattle.std.specs.Option.{option_map_or}
 use Rattle.std.proofs.lemmas.List.{length-set}
 use Rattle.rm_backup.specs.declared.renewing.Renewed.{Renewed}
-use Rattle.rm_base.specs.Store.{Held}
-use Rattle.rm_base.specs.declared.kinds.Status.{Status}
-use Rattle.rm_base.specs.declared.refusal.Refusal.{Refusal}
-use Rattle.rm_base.proofs.Slots.{get-push}
-use Rattle.rm_catalog.specs.declared.record.LogEntry.{LogEntry}
-use Rattle.rm_catalog.specs.declared.record.PieceEntry.{PieceEntry}
-use Rattle.rm_catalog.specs.declared.record.SetEntry.{SetEntry}
-use Rattle.rm_history.specs.declared.tree.Incarnation.{Incarnation}
-use Rattle.rm_history.specs.declared.world.Datafile.{Datafile}
-use Rattle.rm_history.specs.Tree.{HasParentsBelow, IsThere, end_of, parent_of, reset_of, with_end}
-use Rattle.rm_history.specs.World.{file_of}
-use Rattle.rm_history.proofs.Histories.{file_of-with_file}
-use Rattle.rm_catalog_typed.specs.Changes.{with_log, with_new_log, with_piece, with_set}
-use Rattle.rm_catalog_typed.specs.TypedCatalog.{TypedCatalog}
+use Rattle.rm_base.{specs.{Store.{Held}, declared.{kinds.Status.{Status}, refusal.Refusal.{Refusal}}}, proofs.Slots.{get-push}}
+use Rattle.rm_catalog.specs.declared.record.{LogEntry.{LogEntry}, PieceEntry.{PieceEntry}, SetEntry.{SetEntry}}
+use Rattle.rm_history.specs.{Tree.{HasParentsBelow, IsThere, end_of, parent_of, reset_of, with_end}, World.{file_of}}
+use Rattle.rm_history.{specs.declared.{tree.Incarnation.{Incarnation}, world.Datafile.{Datafile}}, proofs.Histories.{file_of-with_file}}
+use Rattle.rm_catalog_typed.specs.{Changes.{with_log, with_new_log, with_piece, with_set}, TypedCatalog.{TypedCatalog}}
 use Rattle.rm_catalog_typed.proofs.Trees.{Keeps, keeps_branch, keeps_end, parents_below}
-use Rattle.rm_live.specs.declared.history.Answer.{Answer}
-use Rattle.rm_live.specs.declared.history.Answer.TheVariants.{Found, Mended, Wrote}
-use Rattle.rm_live.specs.declared.history.Call.{Call}
-use Rattle.rm_live.specs.declared.history.Call.TheVariants.{Mend, Read, Write as write_call}
-use Rattle.rm_live.specs.declared.history.Event.{Event}
+use Rattle.rm_live.specs.declared.history.{Answer.{Answer, TheVariants.{Found, Mended, Wrote}}, Call.{Call}}
+use Rattle.rm_live.specs.declared.history.{Call.TheVariants.{Mend, Read, Write as write_call}, Event.{Event}}
 use Rattle.rm_piece.specs.declared.piece.Piece.{Piece}
 use Rattle.rm_redo.specs.declared.log_file.LogFile.{LogFile}
 use Rattle.rm_report.specs.declared.line.Line.{Line}
 use Rattle.rm_machine.specs.Archive.{after_all, after_thread, after_threads}
 use Rattle.rm_machine.specs.CatalogName.{Found as Stands, IsFound, catalog_by, catalog_refusal, catalogued, found_log, found_piece, inc_of, raised, top_of}
-use Rattle.rm_machine.specs.BackupLogs.{copy_entry, with_copies}
-use Rattle.rm_machine.specs.CreateDatafile.{new_datafile, with_datafile}
-use Rattle.rm_machine.specs.Effect.{Effect, done, refused}
-use Rattle.rm_machine.specs.Events.{after_event, after_events}
+use Rattle.rm_machine.specs.{BackupLogs.{copy_entry, with_copies}, CreateDatafile.{new_datafile, with_datafile}}
+use Rattle.rm_machine.specs.{Effect.{Effect, done, refused}, Events.{after_event, after_events}}
 use Rattle.rm_machine.specs.MadeObjects.{Packed, after_object, after_objects, alone, in_set}
-use Rattle.rm_machine.specs.Marks.{marks_before, one_further, with_marks}
-use Rattle.rm_machine.specs.Mount.{mounted}
-use Rattle.rm_machine.specs.OpenResetlogs.{branched_off}
-use Rattle.rm_machine.specs.RecoverCopy.{after_copies, after_copy}
-use Rattle.rm_machine.specs.SwitchLogfile.{with_archived}
-use Rattle.rm_machine.specs.Sound.{IsSound}
+use Rattle.rm_machine.specs.{Marks.{marks_before, one_further, with_marks}, Mount.{mounted}, OpenResetlogs.{branched_off}}
+use Rattle.rm_machine.specs.{RecoverCopy.{after_copies, after_copy}, SwitchLogfile.{with_archived}, Sound.{IsSound}}
 use Rattle.rm_machine.specs.Upkeep.{changed_to, log_at, log_changed, piece_at, piece_changed, set_at, set_changed, with_catalog, with_keep, with_status, with_statuses, without_all, without_record}
-use Rattle.rm_machine.specs.declared.state.State.{State}
-use Rattle.rm_machine.specs.State.{current_of, ledger, now_of, tree, world}
-use Rattle.rm_lang_statement.specs.declared.command.BackupForm.{BackupForm}
-use Rattle.rm_lang_statement.specs.declared.command.ChangeTo.{ChangeTo}
+use Rattle.rm_machine.specs.{State.{current_of, ledger, now_of, tree, world}, declared.state.State.{State}}
+use Rattle.rm_lang_statement.specs.declared.command.{BackupForm.{BackupForm}, ChangeTo.{ChangeTo}}
 use Rattle.rm_lang_statement.specs.declared.command.ChangeTo.TheVariants.{Available, Keep, NoKeep, Unavailable, Uncatalog}
 
 -- The incarnations stay, with no end that falls, and the datafiles; a new one was created at the end that its incarnation had.

@@ -1,54 +1,24 @@
 -- What a set holds of the states at its address it holds after a step.
+use Rattle.std.specs.{Prelude.{MatchBool}, Option.{option_map_or}}
 use Rattle.std.proofs.Common.{◌≡◌, ◌<◌, ◌≤◌, ◌-◌, ◌∙◌, ◌&&◌, ◌==◌, inl, inr, nat_le, nat_lt, ℕ, List, [], ◌∷◌, Option, Some, None, is_none, Bool, true, false, cond, refl, ap, sym, subst, arith, length, AllPairs, Contains}
-use Rattle.std.specs.Prelude.{MatchBool}
-use Rattle.std.specs.Option.{option_map_or}
-use Rattle.std.proofs.lemmas.Bool.{and_parts, eqb-true, le-leb, leb-true, ltb-true}
-use Rattle.std.proofs.lemmas.Option.{slice_get_within}
+use Rattle.std.proofs.lemmas.{Bool.{and_parts, eqb-true, le-leb, leb-true, ltb-true}, Option.{slice_get_within}}
 use Rattle.std.proofs.lemmas.List.Elements.{All-contains}
-use Rattle.rm_base.specs.declared.block.Change.{Change}
-use Rattle.rm_base.specs.declared.block.Row.{Row}
-use Rattle.rm_base.specs.declared.kinds.Kind.TheVariants.{Level1}
-use Rattle.rm_base.proofs.Lists.{filter_from}
-use Rattle.rm_history.specs.declared.world.Datafile.{Datafile}
-use Rattle.rm_history.specs.declared.world.World.{World}
-use Rattle.rm_history.specs.Agrees.{IsRow as IsStateAfter}
-use Rattle.rm_history.specs.Artefacts.{high_of}
-use Rattle.rm_history.specs.History.{IsHistory}
-use Rattle.rm_history.specs.State.{state, states}
-use Rattle.rm_history.specs.Tree.{IsThere, end_of, owner}
-use Rattle.rm_history.specs.World.{blocks_of, creation_of, exists, file_of}
-use Rattle.rm_history.proofs.Highs.{high-bound, high-least}
+use Rattle.rm_base.{specs.declared.{block.{Change.{Change}, Row.{Row}}, kinds.Kind.TheVariants.{Level1}}, proofs.Lists.{filter_from}}
+use Rattle.rm_history.specs.{Agrees.{IsRow as IsStateAfter}, Artefacts.{high_of}, History.{IsHistory}, State.{state, states}}
+use Rattle.rm_history.specs.{Tree.{IsThere, end_of, owner}, World.{blocks_of, creation_of, exists, file_of}}
+use Rattle.rm_history.{specs.declared.world.{Datafile.{Datafile}, World.{World}}, proofs.Highs.{high-bound, high-least}}
 use Rattle.rm_history.proofs.Worlds.{file-there}
-use Rattle.rm_catalog_typed.proofs.Trees.{own-at_end}
-use Rattle.rm_catalog_typed.specs.LedgerFacts.{AreIncarnations}
-use Rattle.rm_piece.specs.declared.piece.Piece.{Piece}
-use Rattle.rm_piece.specs.declared.set.Set.{Set}
-use Rattle.rm_piece.specs.declared.set.SetFile.{SetFile}
-use Rattle.rm_piece.specs.Level1s.{AreRead}
-use Rattle.rm_piece.specs.Rows.{from_on}
-use Rattle.rm_piece.specs.Sets.{IsMember}
-use Rattle.rm_piece.specs.Valid.{IsBefore, IsPiece, IsRow}
-use Rattle.rm_piece.proofs.Picked.{picked_agrees}
+use Rattle.rm_catalog_typed.{specs.LedgerFacts.{AreIncarnations}, proofs.Trees.{own-at_end}}
+use Rattle.rm_piece.specs.{Level1s.{AreRead}, Rows.{from_on}, Sets.{IsMember}, Valid.{IsBefore, IsPiece, IsRow}}
+use Rattle.rm_piece.{specs.declared.{piece.Piece.{Piece}, set.{Set.{Set}, SetFile.{SetFile}}}, proofs.Picked.{picked_agrees}}
 use Rattle.rm_standby.specs.Standby.{IsTaken}
 use Rattle.rm_lang_statement.specs.declared.command.Command.{Command}
-use Rattle.rm_machine.specs.Damage.{without_damaged}
-use Rattle.rm_machine.specs.Effect.{Artefact, a_piece}
-use Rattle.rm_machine.specs.Honest.{IsHonest}
-use Rattle.rm_machine.specs.Laws.{IsMomentOf}
-use Rattle.rm_machine.specs.Machine.{IsSoundMachine, IsTrueArtefact, Machine, PieceEndsWithin}
-use Rattle.rm_machine.specs.Marks.{lacks_ids}
-use Rattle.rm_machine.specs.Rest.{Rest, Wakes, at_rest, catalog_in}
-use Rattle.rm_machine.specs.Saving.{IsSavedAs, IsSavedBy}
-use Rattle.rm_machine.specs.Step.{IsStatement, names_in}
-use Rattle.rm_machine_laws.specs.Holds.{saved_in}
-use Rattle.rm_machine_laws.specs.Moments.{IsMomentIn}
-use Rattle.rm_machine_laws.specs.Saves.{IsEnded}
-use Rattle.rm_machine_laws.specs.Stopped.{IsLeft, Stopped}
-use Rattle.rm_machine.specs.declared.state.State.{State}
-use Rattle.rm_machine.specs.State.{tree, world}
-use Rattle.rm_machine.proofs.Standing.{each-in}
-use Rattle.rm_standby_laws.specs.Lasting.{HoldsIn, HoldsOf, IsHeld, RestsHeld, StaysHeld}
-use Rattle.rm_standby_laws.proofs.Growing.{Grows}
+use Rattle.rm_machine.specs.{Damage.{without_damaged}, Effect.{Artefact, a_piece}, Honest.{IsHonest}, Laws.{IsMomentOf}}
+use Rattle.rm_machine.specs.{Machine.{IsSoundMachine, IsTrueArtefact, Machine, PieceEndsWithin}, Marks.{lacks_ids}}
+use Rattle.rm_machine.specs.{Rest.{Rest, Wakes, at_rest, catalog_in}, Saving.{IsSavedAs, IsSavedBy}, Step.{IsStatement, names_in}}
+use Rattle.rm_machine.{specs.{State.{tree, world}, declared.state.State.{State}}, proofs.Standing.{each-in}}
+use Rattle.rm_machine_laws.specs.{Holds.{saved_in}, Moments.{IsMomentIn}, Saves.{IsEnded}, Stopped.{IsLeft, Stopped}}
+use Rattle.rm_standby_laws.{specs.Lasting.{HoldsIn, HoldsOf, IsHeld, RestsHeld, StaysHeld}, proofs.Growing.{Grows}}
 use Rattle.rm_standby_laws.proofs.Settled.{begin, picked-begin, row-read, row-there, still-picked, version-range}
 use Rattle.rm_standby_laws.proofs.Steps.{IsAfter, borne, grown, state-after, still-true}
 

@@ -1,18 +1,11 @@
 -- The states of a datafile at an address, from what an increment of them goes on to tell.
 use Rattle.std.proofs.Common.{◌≡◌, ◌<◌, ◌≤◌, ◌+◌, ◌∙◌, ◌⊎◌, inl, inr, nat_le, max, min, ℕ, zero, suc, List, ◌∷◌, false, cond, refl, ap, sym, subst, arith, eqb, Contains}
 use Rattle.std.proofs.lemmas.Bool.{cases_lt, eqb-true, le-leb, leb-true, lt-leb}
-use Rattle.rm_base.proofs.Lists.{any_fails, filter_from, filter_to}
+use Rattle.rm_base.{specs.declared.block.{Change.{Change}, Row.{Row}}, proofs.Lists.{any_fails, filter_from, filter_to}}
 use Rattle.rm_base.proofs.Members.{behind, first-or-rest, in-front, none-in}
-use Rattle.rm_base.specs.declared.block.Change.{Change}
-use Rattle.rm_base.specs.declared.block.Row.{Row}
-use Rattle.rm_history.specs.declared.world.World.{World}
-use Rattle.rm_history.specs.Agrees.{Level1Agrees, lists}
-use Rattle.rm_history.specs.History.{IsHistory}
-use Rattle.rm_history.specs.State.{rows_from, state, states}
-use Rattle.rm_history.specs.World.{blocks_of, creation_of}
-use Rattle.rm_history.proofs.Growth.{concerns-later}
-use Rattle.rm_history.proofs.KnownStates.{created-first, version-below}
-use Rattle.rm_history.proofs.States.{concerns-from, concerns-parts, state-held, state-one}
+use Rattle.rm_history.specs.{Agrees.{Level1Agrees, lists}, History.{IsHistory}, State.{rows_from, state, states}}
+use Rattle.rm_history.{specs.{World.{blocks_of, creation_of}, declared.world.World.{World}}, proofs.Growth.{concerns-later}}
+use Rattle.rm_history.proofs.{KnownStates.{created-first, version-below}, States.{concerns-from, concerns-parts, state-held, state-one}}
 use Rattle.rm_piece.specs.Rows.{from_on}
 
 -- Rows of a datafile, by a row for each block

@@ -1,43 +1,24 @@
 -- An increment stands under its name from its BACKUP on, unless HOST gives that.
-use Rattle.std.proofs.Common.{◌≡◌, ◌<◌, ◌∙◌, ◌&&◌, inl, inr, ℕ, List, Option, Some, None, is_none, Bool, true, false, cond, refl, ap, sym, subst, arith, Contains}
 use Rattle.std.specs.Str.{bytes_eq}
-use Rattle.std.proofs.lemmas.Bool.{cases_Bool, false≢true}
-use Rattle.std.proofs.lemmas.Slice.Eq.{bytes_eq-Decides}
+use Rattle.std.proofs.Common.{◌≡◌, ◌<◌, ◌∙◌, ◌&&◌, inl, inr, ℕ, List, Option, Some, None, is_none, Bool, true, false, cond, refl, ap, sym, subst, arith, Contains}
+use Rattle.std.proofs.lemmas.{Bool.{cases_Bool, false≢true}, Slice.Eq.{bytes_eq-Decides}}
 use Rattle.rm_base.specs.Store.{Held}
-use Rattle.rm_commit.specs.Names.{is_named, itself, name_of, bytes_of, nothing}
-use Rattle.rm_commit.proofs.Named.{unnamed-stays}
+use Rattle.rm_commit.{specs.Names.{is_named, itself, name_of, bytes_of, nothing}, proofs.Named.{unnamed-stays}}
 use Rattle.rm_catalog_typed.specs.TypedCatalog.{TypedCatalog}
-use Rattle.rm_evidence.specs.Names.{roll_name}
-use Rattle.rm_evidence.proofs.Names.{roll-no-site}
-use Rattle.rm_piece.specs.declared.set.Set.{Set}
-use Rattle.rm_piece.specs.SetSpelling.{set_spelling}
-use Rattle.rm_lang_statement.specs.declared.command.Command.{Command}
-use Rattle.rm_lang_statement.specs.declared.command.Command.TheVariants.{BackupFrom}
+use Rattle.rm_evidence.{specs.Names.{roll_name}, proofs.Names.{roll-no-site}}
+use Rattle.rm_piece.specs.{SetSpelling.{set_spelling}, declared.set.Set.{Set}}
+use Rattle.rm_lang_statement.specs.declared.command.Command.{Command, TheVariants.{BackupFrom}}
 use Rattle.rm_report.specs.declared.line.Reply.{Reply}
-use Rattle.rm_machine.specs.Damage.{without_damaged}
-use Rattle.rm_machine.specs.Effect.{Effect, LeavesObjects, Outcome, done, refused, told}
-use Rattle.rm_machine.specs.Laws.{IsMomentOf}
-use Rattle.rm_machine.specs.Machine.{IsBorneOut, IsSoundBy, IsSoundMachine, Machine}
-use Rattle.rm_machine.specs.Marks.{lacks_ids}
-use Rattle.rm_machine.specs.Rest.{Rest, Wakes, at_rest, catalog_in}
-use Rattle.rm_machine.specs.Roll.{after_roll, increment, roll_effect, roll_refusal}
-use Rattle.rm_machine.specs.Saving.{IsSavedAs, IsSavedBy, object_of, parts_of, with_ids}
-use Rattle.rm_machine.specs.declared.state.State.{State}
-use Rattle.rm_machine.specs.State.{at_moment, ledger}
-use Rattle.rm_machine.specs.Step.{IsOutcome, Step, StepBy, StepIn, and_drops, names_in}
+use Rattle.rm_machine.specs.{Damage.{without_damaged}, Effect.{Effect, LeavesObjects, Outcome, done, refused, told}, Laws.{IsMomentOf}}
+use Rattle.rm_machine.specs.{Machine.{IsBorneOut, IsSoundBy, IsSoundMachine, Machine}, Marks.{lacks_ids}}
+use Rattle.rm_machine.specs.{Rest.{Rest, Wakes, at_rest, catalog_in}, Roll.{after_roll, increment, roll_effect, roll_refusal}}
+use Rattle.rm_machine.specs.{Saving.{IsSavedAs, IsSavedBy, object_of, parts_of, with_ids}, State.{at_moment, ledger}}
+use Rattle.rm_machine.specs.{Step.{IsOutcome, Step, StepBy, StepIn, and_drops, names_in}, declared.state.State.{State}}
 use Rattle.rm_machine.proofs.Later.{sound-later}
-use Rattle.rm_machine_laws.specs.Holds.{saved_in}
-use Rattle.rm_machine_laws.specs.Loose.{IsGivenIn}
-use Rattle.rm_machine_laws.specs.Moments.{IsMomentIn}
-use Rattle.rm_machine_laws.specs.Saves.{IsEnded}
-use Rattle.rm_machine_laws.specs.Stopped.{IsLeft, Stopped}
-use Rattle.rm_machine_laws.proofs.Dropping.{named-first, unnamed-site}
-use Rattle.rm_machine_laws.proofs.Every.{every-loose, every-roomy}
-use Rattle.rm_machine_laws.proofs.Leading.{done-by}
+use Rattle.rm_machine_laws.specs.{Holds.{saved_in}, Loose.{IsGivenIn}, Moments.{IsMomentIn}, Saves.{IsEnded}, Stopped.{IsLeft, Stopped}}
+use Rattle.rm_machine_laws.proofs.{Dropping.{named-first, unnamed-site}, Every.{every-loose, every-roomy}, Leading.{done-by}}
 use Rattle.rm_machine_laws.proofs.LowNames.{step-rolls}
-use Rattle.rm_standby_laws.specs.Standing.{IsUnder, RestsIn, StandsIn}
-use Rattle.rm_standby_laws.proofs.Beginning.{told-not}
-use Rattle.rm_standby_laws.proofs.Lasting.{either, moment-of}
+use Rattle.rm_standby_laws.{specs.Standing.{IsUnder, RestsIn, StandsIn}, proofs.{Beginning.{told-not}, Lasting.{either, moment-of}}}
 use Rattle.rm_standby_laws.proofs.Steps.{stepped}
 
 module _ (id : ℕ) (a : Set) where

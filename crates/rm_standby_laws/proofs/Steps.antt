@@ -2,26 +2,19 @@
 use Rattle.std.proofs.Common.{◌≡◌, ◌∙◌, ◌++◌, ◌⊎◌, inl, inr, ℕ, List, [], ◌∷◌, Some, refl, ap, sym, subst, Contains}
 use Rattle.std.proofs.lemmas.List.Elements.{Contains-append_left, Contains-push, Contains-push_cases}
 use Rattle.rm_base.specs.declared.block.Change.{Change}
-use Rattle.rm_evidence.specs.Names.{roll_name}
+use Rattle.rm_evidence.{specs.Names.{roll_name}, proofs.Names.{log-no-roll, piece-no-roll, set-no-roll}}
 use Rattle.rm_history.specs.History.{IsHistory}
-use Rattle.rm_evidence.proofs.Names.{log-no-roll, piece-no-roll, set-no-roll}
 use Rattle.rm_catalog_typed.specs.Worlds.{database_of}
 use Rattle.rm_lang_statement.specs.declared.command.Command.{Command}
-use Rattle.rm_report.specs.declared.line.Line.{Line}
-use Rattle.rm_report.specs.declared.line.Reply.{Reply}
-use Rattle.rm_machine.specs.Effect.{Artefact, Effect, LeavesObjects, Made, Outcome, done, refused, told}
-use Rattle.rm_machine.specs.Honest.{IsHonest}
+use Rattle.rm_report.specs.declared.line.{Line.{Line}, Reply.{Reply}}
+use Rattle.rm_machine.specs.{Effect.{Artefact, Effect, LeavesObjects, Made, Outcome, done, refused, told}, Honest.{IsHonest}}
 use Rattle.rm_machine.specs.Laws.{IsMomentOf}
 use Rattle.rm_machine.specs.Machine.{DigestsTellFor, IsBorneOut, IsSoundBy, IsSoundMachine, IsTrueArtefact, Machine, TellBy}
-use Rattle.rm_machine.specs.declared.state.State.{State}
 use Rattle.rm_machine.specs.State.{at_moment, ledger, world}
 use Rattle.rm_machine.specs.Step.{IsOutcome, IsStatement, MachineFollows, Step, StepBy, StepIn, and_drops, refusal_of}
-use Rattle.rm_machine.proofs.Kept.{kept-on, stand-same, stays-so}
-use Rattle.rm_machine.proofs.Later.{sound-later}
-use Rattle.rm_machine_laws.proofs.Every.{every-leads}
-use Rattle.rm_machine_laws.proofs.Leading.{done-by}
-use Rattle.rm_standby_laws.proofs.EachStatement.{each-grows}
-use Rattle.rm_standby_laws.proofs.Growing.{Grows, goes-same, grows-on}
+use Rattle.rm_machine.{specs.declared.state.State.{State}, proofs.{Kept.{kept-on, stand-same, stays-so}, Later.{sound-later}}}
+use Rattle.rm_machine_laws.proofs.{Every.{every-leads}, Leading.{done-by}}
+use Rattle.rm_standby_laws.proofs.{EachStatement.{each-grows}, Growing.{Grows, goes-same, grows-on}}
 
 -- What was done
 

@@ -1,23 +1,14 @@
 -- What a set holds, of a machine that goes on.
 use Rattle.std.specs.Prelude.{ℕ, ◌≤◌, Option, Some, None, List}
-use Rattle.rm_base.specs.declared.block.Change.{Change}
-use Rattle.rm_base.specs.declared.block.Row.{Row}
-use Rattle.rm_history.specs.declared.tree.Incarnation.{Incarnation}
-use Rattle.rm_history.specs.declared.world.World.{World}
-use Rattle.rm_history.specs.Tree.{IsThere, end_of}
-use Rattle.rm_piece.specs.declared.set.Set.{Set}
-use Rattle.rm_piece.specs.Sets.{IsSet}
+use Rattle.rm_base.specs.declared.block.{Change.{Change}, Row.{Row}}
+use Rattle.rm_history.specs.{Tree.{IsThere, end_of}, declared.{tree.Incarnation.{Incarnation}, world.World.{World}}}
+use Rattle.rm_piece.specs.{Sets.{IsSet}, declared.set.Set.{Set}}
 use Rattle.rm_standby.specs.Standby.{Holds}
-use Rattle.rm_catalog_typed.specs.TypedCatalog.{TypedCatalog}
-use Rattle.rm_catalog_typed.specs.Worlds.{world_of}
+use Rattle.rm_catalog_typed.specs.{TypedCatalog.{TypedCatalog}, Worlds.{world_of}}
 use Rattle.rm_lang_statement.specs.declared.command.Command.{Command}
 use Rattle.rm_report.specs.declared.line.Reply.{Reply}
-use Rattle.rm_machine.specs.Honest.{IsHonest}
-use Rattle.rm_machine.specs.Machine.{IsSoundMachine, Machine}
-use Rattle.rm_machine.specs.Rest.{Rest, catalog_in}
-use Rattle.rm_machine.specs.Step.{IsStatement, Step}
-use Rattle.rm_machine_laws.specs.Moments.{IsMomentIn}
-use Rattle.rm_machine_laws.specs.Stopped.{Stopped}
+use Rattle.rm_machine.specs.{Honest.{IsHonest}, Machine.{IsSoundMachine, Machine}, Rest.{Rest, catalog_in}, Step.{IsStatement, Step}}
+use Rattle.rm_machine_laws.specs.{Moments.{IsMomentIn}, Stopped.{Stopped}}
 
 -- the set's incarnation is there, and its checkpoint is not above the end of that
 pub record LiesWithin (tree : List Incarnation) (a : Set) : Type 0 where

@@ -3,10 +3,8 @@ use Rattle.std.specs.Prelude.{ℕ, ◌≡◌, Option, Some}
 use Rattle.rm_base.specs.Store.{Held}
 use Rattle.rm_catalog_typed.specs.TypedCatalog.{TypedCatalog}
 use Rattle.rm_evidence.specs.Names.{roll_name}
-use Rattle.rm_piece.specs.declared.set.Set.{Set}
-use Rattle.rm_piece.specs.SetSpelling.{set_spelling}
-use Rattle.rm_machine.specs.Machine.{Machine}
-use Rattle.rm_machine.specs.Rest.{Rest, catalog_in}
+use Rattle.rm_piece.specs.{SetSpelling.{set_spelling}, declared.set.Set.{Set}}
+use Rattle.rm_machine.specs.{Machine.{Machine}, Rest.{Rest, catalog_in}}
 use Rattle.rm_machine_laws.specs.Loose.{IsGivenIn}
 
 -- its id was given by the database with these records, and its object spells it

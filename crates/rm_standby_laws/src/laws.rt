@@ -1,34 +1,18 @@
 //! What a set holds of a machine.
 ghost use Rattle.std.specs.Prelude.{ℕ, ◌≡◌, All, Bool, Contains, List, None, Some, false};
-ghost use Rattle.rm_base.specs.declared.block.Change.{Change};
-ghost use Rattle.rm_base.specs.declared.block.Row.{Row};
+ghost use Rattle.rm_base.specs.declared.block.{Change.{Change}, Row.{Row}};
 ghost use Rattle.rm_blocks.specs.File.{File};
 ghost use Rattle.rm_history.specs.History.{IsHistory};
-ghost use Rattle.rm_piece.specs.Rows.{from_on};
-ghost use Rattle.rm_piece.specs.Sets.{IsSet};
-ghost use Rattle.rm_piece.specs.declared.set.Set.{Set};
-ghost use Rattle.rm_standby.specs.Image.{imaged};
-ghost use Rattle.rm_standby.specs.Rolling.{Meets, rolled};
-ghost use Rattle.rm_standby.specs.Standby.{HoldsStates};
+ghost use Rattle.rm_piece.specs.{Rows.{from_on}, Sets.{IsSet}, declared.set.Set.{Set}};
+ghost use Rattle.rm_standby.specs.{Image.{imaged}, Rolling.{Meets, rolled}, Standby.{HoldsStates}};
 ghost use Rattle.rm_evidence.specs.Names.{roll_name};
-ghost use Rattle.rm_lang_statement.specs.declared.command.Command.{Command};
-ghost use Rattle.rm_lang_statement.specs.declared.command.Command.TheVariants.{BackupFrom};
-ghost use Rattle.rm_lang_statement.specs.declared.command.Until.TheVariants.{Scn};
+ghost use Rattle.rm_lang_statement.specs.declared.command.{Command.{Command, TheVariants.{BackupFrom}}, Until.TheVariants.{Scn}};
 ghost use Rattle.rm_report.specs.declared.line.Reply.{Reply};
-ghost use Rattle.rm_machine.specs.Laws.{IsMomentOf};
-ghost use Rattle.rm_machine.specs.Machine.{IsSoundMachine, Machine};
-ghost use Rattle.rm_machine.specs.RecoverTest.{test_refusal};
-ghost use Rattle.rm_machine.specs.Rest.{Rest, Wakes};
-ghost use Rattle.rm_machine.specs.Roll.{increment};
-ghost use Rattle.rm_machine.specs.Sound.{IsSound};
-ghost use Rattle.rm_machine.specs.State.{at_moment, current_of, ledger, tree, world};
-ghost use Rattle.rm_machine.specs.Step.{Step, names_in};
-ghost use Rattle.rm_machine.specs.declared.state.State.{State};
-ghost use Rattle.rm_machine_laws.specs.Moments.{IsMomentIn};
-ghost use Rattle.rm_machine_laws.specs.Saves.{IsEnded};
-ghost use Rattle.rm_machine_laws.specs.Stopped.{IsLeft, Stopped};
-ghost use Rattle.rm_standby_laws.specs.Lasting.{HoldsIn, IsHeld, RestsHeld, StaysHeld, StopsHeld};
-ghost use Rattle.rm_standby_laws.specs.Standing.{RestsIn, StandsIn};
+ghost use Rattle.rm_machine.specs.{Laws.{IsMomentOf}, Machine.{IsSoundMachine, Machine}, RecoverTest.{test_refusal}, Rest.{Rest, Wakes}};
+ghost use Rattle.rm_machine.specs.{Roll.{increment}, Sound.{IsSound}, State.{at_moment, current_of, ledger, tree, world}};
+ghost use Rattle.rm_machine.specs.{Step.{Step, names_in}, declared.state.State.{State}};
+ghost use Rattle.rm_machine_laws.specs.{Moments.{IsMomentIn}, Saves.{IsEnded}, Stopped.{IsLeft, Stopped}};
+ghost use Rattle.rm_standby_laws.specs.{Lasting.{HoldsIn, IsHeld, RestsHeld, StaysHeld, StopsHeld}, Standing.{RestsIn, StandsIn}};
 
 /// What a set holds of the states at its address, all of them or those of a version at or above an SCN, it holds after each statement
 /// too, where the world is honest.

@@ -1,16 +1,12 @@
 -- The standby that is found, name by name.
-use Rattle.std.proofs.Common.{◌≡◌, ◌∙◌, ◌+◌, ◌++◌, ◌<◌, ◌∷◌, [], ℕ, true, false, List, Option, Some, None, inl, inr, ap, sym, subst, arith, get_or, length, take}
 use Rattle.std.specs.Prelude.{Contains, IfSome, is_some}
+use Rattle.std.proofs.Common.{◌≡◌, ◌∙◌, ◌+◌, ◌++◌, ◌<◌, ◌∷◌, [], ℕ, true, false, List, Option, Some, None, inl, inr, ap, sym, subst, arith, get_or, length, take}
 use Rattle.std.proofs.lemmas.Option.{same_Some}
-use Rattle.rm_base.specs.Store.{AreTheNames, Held}
-use Rattle.rm_base.proofs.Lists.{front_or_end, take_more}
-use Rattle.rm_base.proofs.Members.{none-in}
-use Rattle.rm_piece.specs.declared.set.Set.{Set}
-use Rattle.rm_piece.specs.SetSpelling.{set_spelling}
-use Rattle.rm_piece.proofs.SetFitting.{spelling_same}
+use Rattle.rm_base.{specs.Store.{AreTheNames, Held}, proofs.{Lists.{front_or_end, take_more}, Members.{none-in}}}
+use Rattle.rm_piece.{specs.{SetSpelling.{set_spelling}, declared.set.Set.{Set}}, proofs.SetFitting.{spelling_same}}
 use Rattle.rm_standby_store.specs.Names.{standby_name, IsAmong, IsBelow, IsNumbered, IsStandby, SpellsSet, StandsAs}
-use Rattle.rm_standby.specs.Standby.{is_standby}
 use Rattle.rm_standby_store.proofs.Naming.{name-apart}
+use Rattle.rm_standby.specs.Standby.{is_standby}
 
 -- what is found where one name more is looked at
 abbrev pub Goes : Held → List ℕ → Option (ℕ × Set) → Option (ℕ × Set) → Type 0

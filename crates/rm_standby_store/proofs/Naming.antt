@@ -1,14 +1,8 @@
 -- The name of a standby tells its number.
+use Rattle.std.specs.{Fmt.{decimal}, Result.{result_ok}, Str.Parse.{ParsesUnsigned}, declared.result.Result.{Result, TheVariants.{Ok, Err}}}
 use Rattle.std.proofs.Common.{◌≡◌, ◌∙◌, ◌++◌, ◌^◌, ◌<◌, ◌≤◌, ◌↔◌, ℕ, zero, suc, List, Some, ap, sym, subst, arith, codes, get_or}
-use Rattle.std.specs.Fmt.{decimal}
-use Rattle.std.specs.Result.{result_ok}
-use Rattle.std.specs.declared.result.Result.{Result}
-use Rattle.std.specs.declared.result.Result.TheVariants.{Ok, Err}
-use Rattle.std.specs.Str.Parse.{ParsesUnsigned}
 use Rattle.std.proofs.lemmas.Fmt.{decimal-digits_value, decimal_digit, decimal_injective, first_decimal, parse-decimal}
-use Rattle.std.proofs.lemmas.List.{append_cancel_left}
-use Rattle.std.proofs.lemmas.Option.{same_Some}
-use Rattle.std.proofs.lemmas.Str.Parse.{numerals_by_value, parse_plain, tells_digits}
+use Rattle.std.proofs.lemmas.{List.{append_cancel_left}, Option.{same_Some}, Str.Parse.{numerals_by_value, parse_plain, tells_digits}}
 use Rattle.rm_standby_store.specs.Names.{standby_name, IsNumbered}
 
 pub name-apart : (j k : ℕ) → j < 2 ^ 64 → k < 2 ^ 64 → standby_name j ≡ standby_name k → j ≡ k

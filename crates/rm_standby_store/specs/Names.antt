@@ -1,10 +1,7 @@
 -- The names of standbys in their store, and which of them is the standby.
-use Rattle.std.specs.Prelude.{ℕ, ◌≡◌, ◌≢◌, ◌<◌, ◌≤◌, ◌++◌, true, Option, Some, None, List, Contains, codes}
-use Rattle.std.specs.Fmt.{decimal}
+use Rattle.std.specs.{Prelude.{ℕ, ◌≡◌, ◌≢◌, ◌<◌, ◌≤◌, ◌++◌, true, Option, Some, None, List, Contains, codes}, Fmt.{decimal}}
 use Rattle.rm_base.specs.Store.{Held}
-use Rattle.rm_piece.specs.declared.set.Set.{Set}
-use Rattle.rm_piece.specs.SetSpelling.{set_spelling}
-use Rattle.rm_piece.specs.Sets.{IsSet}
+use Rattle.rm_piece.specs.{SetSpelling.{set_spelling}, Sets.{IsSet}, declared.set.Set.{Set}}
 use Rattle.rm_standby.specs.Standby.{is_standby}
 
 -- the name of standby k

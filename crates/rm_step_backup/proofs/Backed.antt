@@ -1,42 +1,22 @@
 -- A BACKUP that was done comes to what the machine says.
+use Rattle.std.specs.{Global.{Global}, Prelude.{Vec}}
 use Rattle.std.proofs.Common.{◌≡◌, ◌<◌, ◌≤◌, ◌∙◌, ◌++◌, ℕ, List, [], ◌∷◌, Option, None, Ok, refl, ap, sym, subst, arith, length, map, Contains}
-use Rattle.std.specs.Global.{Global}
-use Rattle.std.specs.Prelude.{Vec}
 use Rattle.std.proofs.lemmas.List.{length-map}
-use Rattle.rm_base.specs.Store.{Held}
-use Rattle.rm_base.specs.declared.block.Row.{Row}
-use Rattle.rm_catalog.specs.Objects.{IsTag}
-use Rattle.rm_catalog.specs.declared.record.Edit.{Edit}
-use Rattle.rm_base.proofs.Members.{in-front}
-use Rattle.rm_channel.specs.Jobs.{AreRows, Span, deeds_of, lists, whole}
-use Rattle.rm_channel.specs.Made.{AreThese, deed}
-use Rattle.rm_channel.specs.declared.jobs.CopyJob.{CopyJob}
+use Rattle.rm_base.{specs.{Store.{Held}, declared.block.Row.{Row}}, proofs.Members.{in-front}}
+use Rattle.rm_catalog.specs.{Objects.{IsTag}, declared.record.Edit.{Edit}}
+use Rattle.rm_channel.specs.{Jobs.{AreRows, Span, deeds_of, lists, whole}, Made.{AreThese, deed}, declared.jobs.CopyJob.{CopyJob}}
 use Rattle.rm_channel.specs.declared.jobs.Work.{Work}
 use Rattle.rm_live.specs.Ruled.{total}
 use Rattle.rm_report.specs.declared.line.Line.{Line}
-use Rattle.rm_lang_statement.specs.declared.command.BackupForm.{BackupForm}
-use Rattle.rm_lang_statement.specs.declared.command.Command.TheVariants.{Backup}
-use Rattle.rm_lang_statement.specs.declared.command.WriteForm.{WriteForm}
-use Rattle.rm_machine.specs.Asked.{lists_from, span_of, writers_of, writes_in}
-use Rattle.rm_machine.specs.Backup.{AreJobs, IsTagBy, named_tag, or_nothing}
-use Rattle.rm_machine.specs.BackupOutcome.{at_end, begun, effect_of, write_lines}
-use Rattle.rm_machine.specs.Effect.{done}
-use Rattle.rm_machine.specs.Hands.{Hands}
-use Rattle.rm_machine.specs.MadeObjects.{CanRecord, Packed, after_objects, object_lines, objects_put, packed}
-use Rattle.rm_machine.specs.Sound.{IsSound}
-use Rattle.rm_machine.specs.Step.{IsStatement, refusal_of}
-use Rattle.rm_machine.proofs.Tags.{tag-fits}
-use Rattle.rm_machine.specs.declared.handed.Handed.{Handed}
-use Rattle.rm_machine.specs.declared.job.Job.{Job}
-use Rattle.rm_machine.specs.declared.state.State.{State}
-use Rattle.rm_machine.specs.State.{ledger, now_of}
+use Rattle.rm_lang_statement.specs.declared.command.{BackupForm.{BackupForm}, Command.TheVariants.{Backup}, WriteForm.{WriteForm}}
+use Rattle.rm_machine.specs.{Asked.{lists_from, span_of, writers_of, writes_in}, Backup.{AreJobs, IsTagBy, named_tag, or_nothing}}
+use Rattle.rm_machine.specs.{BackupOutcome.{at_end, begun, effect_of, write_lines}, Effect.{done}, Hands.{Hands}}
+use Rattle.rm_machine.specs.{MadeObjects.{CanRecord, Packed, after_objects, object_lines, objects_put, packed}, Sound.{IsSound}}
+use Rattle.rm_machine.specs.{Step.{IsStatement, refusal_of}, State.{ledger, now_of}, Running.{CanFollow}, declared.handed.Handed.{Handed}}
+use Rattle.rm_machine.{specs.declared.{job.Job.{Job}, state.State.{State}}, proofs.Tags.{tag-fits}}
 use Rattle.rm_machine.proofs.BackingUp.{can-record, during-marks, end-sound, packed-at_end, per_set-some, sound-begun}
-use Rattle.rm_machine.proofs.BackupAccepted.{CanBackUp, can-back_up}
-use Rattle.rm_machine.proofs.BackupMarks.{marked-same}
-use Rattle.rm_machine.specs.Running.{CanFollow}
-use Rattle.rm_step_backup.specs.Recorded.{HasRecorded}
-use Rattle.rm_step_backup.specs.Running.{HasRunLive}
-use Rattle.rm_machine.proofs.WritersRoom.{four-writers, no-writes}
+use Rattle.rm_machine.proofs.{BackupAccepted.{CanBackUp, can-back_up}, BackupMarks.{marked-same}, WritersRoom.{four-writers, no-writes}}
+use Rattle.rm_step_backup.specs.{Recorded.{HasRecorded}, Running.{HasRunLive}}
 
 -- Before the first event
 

@@ -1,11 +1,8 @@
 -- Where the backups of datafiles begin.
-use Rattle.std.proofs.Common.{◌≡◌, ◌∙◌, ℕ, List, Option, Some, None, Bool, true, false, cond}
-use Rattle.std.proofs.lemmas.List.Elements.{All-contains}
+use Rattle.std.proofs.{Common.{◌≡◌, ◌∙◌, ℕ, List, Option, Some, None, Bool, true, false, cond}, lemmas.List.Elements.{All-contains}}
 use Rattle.rm_catalog_typed.specs.TypedCatalog.{records_of}
 use Rattle.rm_lang_statement.specs.declared.command.BackupForm.{BackupForm}
-use Rattle.rm_machine.specs.Backup.{AreJobs, BeginsAt, HasParent, is_level1, taken}
-use Rattle.rm_machine.specs.declared.job.Job.{Job}
-use Rattle.rm_machine.specs.declared.state.State.{State}
+use Rattle.rm_machine.specs.{Backup.{AreJobs, BeginsAt, HasParent, is_level1, taken}, declared.{job.Job.{Job}, state.State.{State}}}
 use Rattle.rm_step_backup.specs.Begins.{AreJobsBy, BeginsBy, records_for}
 
 -- by the records of the state a backup begins where it is to

@@ -1,36 +1,19 @@
 -- The copies that a BACKUP asks for, and the bitmaps that end at its beginning.
-use Rattle.std.proofs.Common.{◌≡◌, ◌≤◌, ◌<◌, ◌+◌, ◌-◌, ◌∙◌, ◌==◌, inl, inr, ℕ, List, [], ◌∷◌, ◌++◌, Option, Some, None, IfSome, refl, ap, sym, subst, arith, find, get_or, length, map, slice_get, take}
 use Rattle.std.specs.Option.{option_map, option_map_or}
-use Rattle.std.proofs.lemmas.List.{map_push, take_more}
-use Rattle.std.proofs.lemmas.List.Elements.{All-push}
-use Rattle.std.proofs.lemmas.Option.{slice_get_within}
+use Rattle.std.proofs.Common.{◌≡◌, ◌≤◌, ◌<◌, ◌+◌, ◌-◌, ◌∙◌, ◌==◌, inl, inr, ℕ, List, [], ◌∷◌, ◌++◌, Option, Some, None, IfSome, refl, ap, sym, subst, arith, find, get_or, length, map, slice_get, take}
+use Rattle.std.proofs.lemmas.{List.{map_push, take_more, Elements.{All-push}}, Option.{slice_get_within}}
 use Rattle.rm_base.proofs.Slots.{get-index}
 use Rattle.rm_blocks.specs.File.{File}
-use Rattle.rm_channel.specs.Jobs.{whole}
-use Rattle.rm_channel.specs.Room.{IsThere}
-use Rattle.rm_channel.specs.declared.jobs.CopyJob.{CopyJob}
-use Rattle.rm_channel.specs.declared.jobs.Wanted.TheVariants.{All as AllBlocks, Blocks}
+use Rattle.rm_channel.specs.{Jobs.{whole}, Room.{IsThere}, declared.jobs.{CopyJob.{CopyJob}, Wanted.TheVariants.{All as AllBlocks, Blocks}}}
 use Rattle.rm_history.specs.declared.world.Datafile.{Datafile}
 use Rattle.rm_catalog_typed.proofs.Lookups.{item-at}
 use Rattle.rm_live.specs.Ruled.{upto}
-use Rattle.rm_machine.specs.Asked.{candidates_in, span_of}
-use Rattle.rm_machine.specs.Backup.{rows_in}
-use Rattle.rm_machine.specs.Events.{opening, standing_in}
-use Rattle.rm_machine.specs.Sound.{IsSound}
-use Rattle.rm_machine.specs.Tracked.{switch_all}
-use Rattle.rm_machine.specs.declared.job.Job.{Job}
-use Rattle.rm_machine.specs.declared.state.State.{State}
-use Rattle.rm_machine.specs.State.{ledger, now_of}
-use Rattle.rm_machine.proofs.PiecesRead.{blocks-by}
-use Rattle.rm_machine.proofs.ReadBlocks.{candidates-long, known-by}
-use Rattle.rm_machine.proofs.Tracked.{at-file}
-use Rattle.rm_step_backup.specs.Copying.{AreCopiesOf, IsCopyOf, StartBelow, Stands}
-use Rattle.rm_step_backup.proofs.Counted.{counted-rows}
-use Rattle.rm_machine.proofs.WritersRoom.{file-found}
-use Rattle.rm_track.specs.Bitmaps.{Tracked, switch_at, switched, tracked_at}
-use Rattle.rm_track.specs.Bits.{IsBits, blocks_from, marks_of}
-use Rattle.rm_track.specs.declared.bits.Bits.{Bits}
-use Rattle.rm_track.proofs.Marks.{length-marks}
+use Rattle.rm_machine.specs.{Asked.{candidates_in, span_of}, Backup.{rows_in}, Events.{opening, standing_in}, Sound.{IsSound}}
+use Rattle.rm_machine.specs.{Tracked.{switch_all}, State.{ledger, now_of}, declared.{job.Job.{Job}, state.State.{State}}}
+use Rattle.rm_machine.proofs.{PiecesRead.{blocks-by}, ReadBlocks.{candidates-long, known-by}, Tracked.{at-file}, WritersRoom.{file-found}}
+use Rattle.rm_step_backup.{specs.Copying.{AreCopiesOf, IsCopyOf, StartBelow, Stands}, proofs.Counted.{counted-rows}}
+use Rattle.rm_track.specs.{Bitmaps.{Tracked, switch_at, switched, tracked_at}, Bits.{IsBits, blocks_from, marks_of}}
+use Rattle.rm_track.{specs.declared.bits.Bits.{Bits}, proofs.Marks.{length-marks}}
 
 -- Copies
 

@@ -1,16 +1,10 @@
 -- A datafile in place has 65,536 blocks at most.
-use Rattle.std.proofs.Common.{◌≡◌, ◌≤◌, ◌-◌, inl, inr, ℕ, [], Option, None, Some, refl, ap, arith, length}
-use Rattle.std.specs.Option.{option_map_or}
-use Rattle.std.proofs.lemmas.Bool.{cases_Bool}
-use Rattle.std.proofs.lemmas.Option.{slice_get_within}
+use Rattle.std.{specs.Option.{option_map_or}, proofs.Common.{◌≡◌, ◌≤◌, ◌-◌, inl, inr, ℕ, [], Option, None, Some, refl, ap, arith, length}}
+use Rattle.std.proofs.lemmas.{Bool.{cases_Bool}, Option.{slice_get_within}}
 use Rattle.rm_base.proofs.Slots.{all-get, get-index}
 use Rattle.rm_blocks.specs.File.{File}
-use Rattle.rm_catalog_typed.specs.LedgerFacts.{IsCreated}
-use Rattle.rm_catalog_typed.proofs.Lookups.{item-at}
-use Rattle.rm_machine.specs.Backup.{rows_in}
-use Rattle.rm_machine.specs.Sound.{IsSound}
-use Rattle.rm_machine.specs.declared.state.State.{State}
-use Rattle.rm_machine.specs.State.{counted, ledger, placed, tree}
+use Rattle.rm_catalog_typed.{specs.LedgerFacts.{IsCreated}, proofs.Lookups.{item-at}}
+use Rattle.rm_machine.specs.{Backup.{rows_in}, Sound.{IsSound}, State.{counted, ledger, placed, tree}, declared.state.State.{State}}
 use Rattle.rm_machine.proofs.Places.{counted-closed, counted-open}
 
 -- it counts with as many rows

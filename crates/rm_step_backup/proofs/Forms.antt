@@ -1,9 +1,7 @@
 -- What is known of the form of a statement.
-use Rattle.std.proofs.Common.{◌≡◌, ◌&&◌, ◌||◌, Bool, true, false, refl, is_some, not}
-use Rattle.std.proofs.lemmas.Bool.{and_parts}
+use Rattle.std.proofs.{Common.{◌≡◌, ◌&&◌, ◌||◌, Bool, true, false, refl, is_some, not}, lemmas.Bool.{and_parts}}
+use Rattle.rm_lang_statement.specs.{Agreed.{agrees_in_level, agrees_in_merge, agrees_in_sets, is_one}, IsCommand.{is_backup}}
 use Rattle.rm_lang_statement.specs.declared.command.BackupForm.{BackupForm}
-use Rattle.rm_lang_statement.specs.Agreed.{agrees_in_level, agrees_in_merge, agrees_in_sets, is_one}
-use Rattle.rm_lang_statement.specs.IsCommand.{is_backup}
 
 -- a backup for the recovery of copies is not cumulative
 pub not-cumulative : (b : BackupForm) → is_backup b ≡ true → is_some b.merge_tag ≡ true → b.cumulative ≡ false

@@ -1,33 +1,15 @@
 -- BACKUP INCREMENTAL FROM SCN: the set that is made of the datafiles in place is the increment, and what is done is its outcome.
 use Rattle.std.proofs.Common.{◌≡◌, ◌<◌, ◌≤◌, ◌+◌, ◌∙◌, ℕ, List, [], ◌∷◌, Option, Some, None, All, ap, sym, subst, arith, false, length, map}
-use Rattle.std.proofs.lemmas.List.{map-id}
-use Rattle.std.proofs.lemmas.List.Elements.{All-weaker}
-use Rattle.std.proofs.lemmas.List.Sums.{sum_by-le}
-use Rattle.std.proofs.lemmas.Simd.{map-map}
+use Rattle.std.proofs.lemmas.{List.{map-id, Elements.{All-weaker}, Sums.{sum_by-le}}, Simd.{map-map}}
 use Rattle.rm_base.specs.Store.{Held}
 use Rattle.rm_catalog_typed.specs.Fitting.{FitsBase}
 use Rattle.rm_commit.specs.declared.commit.Object.{Object}
-use Rattle.rm_lang_statement.specs.declared.command.BackupForm.{BackupForm}
-use Rattle.rm_lang_statement.specs.declared.command.Command.TheVariants.{BackupFrom}
-use Rattle.rm_machine.specs.Backup.{taken}
-use Rattle.rm_machine.specs.BackupOutcome.{begun}
-use Rattle.rm_machine.specs.BackupRefusal.{mark_count}
-use Rattle.rm_machine.specs.Effect.{done}
-use Rattle.rm_machine.specs.Hands.{Hands}
-use Rattle.rm_machine.specs.Marks.{lacks_room}
-use Rattle.rm_machine.specs.Roll.{increment, of_all, roll_effect, roll_refusal, rows_listed, with_next_id}
-use Rattle.rm_machine.specs.Sound.{IsSound}
-use Rattle.rm_machine.specs.Upkeep.{with_catalog}
-use Rattle.rm_machine.specs.declared.handed.Handed.{Handed}
-use Rattle.rm_machine.specs.declared.job.Job.{Job}
-use Rattle.rm_machine.specs.declared.state.State.{State}
-use Rattle.rm_machine.specs.State.{ledger}
-use Rattle.rm_machine.proofs.BackingUp.{mapped-all}
-use Rattle.rm_machine.proofs.Rolling.{can-roll, increment-valid, next-fits}
-use Rattle.rm_piece.specs.Sets.{IsMember, IsSet}
-use Rattle.rm_piece.specs.Valid.{IsPiece}
-use Rattle.rm_piece.specs.declared.set.Set.{Set}
-use Rattle.rm_piece.specs.declared.set.SetFile.{SetFile}
+use Rattle.rm_lang_statement.specs.declared.command.{BackupForm.{BackupForm}, Command.TheVariants.{BackupFrom}}
+use Rattle.rm_machine.specs.{Backup.{taken}, BackupOutcome.{begun}, BackupRefusal.{mark_count}, Effect.{done}, Hands.{Hands}}
+use Rattle.rm_machine.specs.{Marks.{lacks_room}, Roll.{increment, of_all, roll_effect, roll_refusal, rows_listed, with_next_id}}
+use Rattle.rm_machine.specs.{Sound.{IsSound}, Upkeep.{with_catalog}, State.{ledger}, declared.{handed.Handed.{Handed}, job.Job.{Job}}}
+use Rattle.rm_machine.{specs.declared.state.State.{State}, proofs.{BackingUp.{mapped-all}, Rolling.{can-roll, increment-valid, next-fits}}}
+use Rattle.rm_piece.specs.{Sets.{IsMember, IsSet}, Valid.{IsPiece}, declared.set.{Set.{Set}, SetFile.{SetFile}}}
 use Rattle.rm_piece.proofs.Fitting.{few_rows}
 use Rattle.rm_report.specs.declared.line.Line.{Line}
 use Rattle.rm_step_backup.specs.Increments.{CanStand, jobs_of, line_of, object_of, standing_member, standing_set}

@@ -1,41 +1,22 @@
 -- Backups of logs under way: some logs are backed up, and the rest lead on from there.
+use Rattle.std.specs.{Option.{option_map_or}, Prelude.{IfSome}}
 use Rattle.std.proofs.Common.{◌≡◌, ◌≤◌, ◌<◌, ◌+◌, ◌∙◌, ◌++◌, ◌==◌, cond, false, ℕ, suc, List, [], ◌∷◌, Option, None, Some, refl, ap, sym, subst, arith, append_assoc, drop-cons, drop, get_or, length, map, All}
-use Rattle.std.specs.Option.{option_map_or}
-use Rattle.std.specs.Prelude.{IfSome}
-use Rattle.std.proofs.lemmas.Bool.{ne_eqb}
-use Rattle.std.proofs.lemmas.List.{append-nil}
-use Rattle.std.proofs.lemmas.List.Elements.{All-append, All-cons, All-contains, All-head, All-nil}
+use Rattle.std.proofs.lemmas.{Bool.{ne_eqb}, List.{append-nil, Elements.{All-append, All-cons, All-contains, All-head, All-nil}}}
 use Rattle.std.proofs.lemmas.Option.{same_Some}
-use Rattle.rm_base.specs.Store.{Held}
-use Rattle.rm_base.specs.declared.kinds.Bad.{Bad}
-use Rattle.rm_base.specs.declared.refusal.Refusal.{Refusal}
-use Rattle.rm_base.proofs.Lists.{map_from}
+use Rattle.rm_base.{specs.{Store.{Held}, declared.{kinds.Bad.{Bad}, refusal.Refusal.{Refusal}}}, proofs.Lists.{map_from}}
 use Rattle.rm_catalog.specs.declared.record.Edit.{Edit}
 use Rattle.rm_commit.specs.declared.commit.Object.{Object}
-use Rattle.rm_redo.specs.declared.log_file.LogFile.{LogFile}
-use Rattle.rm_redo.specs.LogFormat.{IsLogFile}
-use Rattle.rm_report.specs.Reply.{IsPlain}
-use Rattle.rm_report.specs.declared.line.Line.{Line}
-use Rattle.rm_report.specs.declared.line.Line.TheVariants.{NothingToBackUp}
-use Rattle.rm_catalog_typed.specs.Changes.{EditsFollow}
-use Rattle.rm_catalog_typed.specs.Fitting.{FitsNewLog}
-use Rattle.rm_catalog_typed.proofs.Changed.{follows-then}
+use Rattle.rm_redo.specs.{LogFormat.{IsLogFile}, declared.log_file.LogFile.{LogFile}}
+use Rattle.rm_report.specs.{Reply.{IsPlain}, declared.line.Line.{Line, TheVariants.{NothingToBackUp}}}
+use Rattle.rm_catalog_typed.{specs.{Changes.{EditsFollow}, Fitting.{FitsNewLog}}, proofs.Changed.{follows-then}}
 use Rattle.rm_lang_statement.specs.declared.command.Command.TheVariants.{BackupLogs}
 use Rattle.rm_machine.specs.Backup.{or_nothing}
 use Rattle.rm_machine.specs.BackupLogs.{copies_of, copies_refusal, copy_entry, copy_line, copy_object, copying, makes_copies}
-use Rattle.rm_machine.specs.Effect.{Outcome, refused}
-use Rattle.rm_machine.specs.Hands.{Hands, Refuses}
-use Rattle.rm_machine.specs.Recovery.{skipped_lines}
-use Rattle.rm_machine.specs.Sound.{IsSound}
-use Rattle.rm_machine.specs.declared.handed.Handed.{Handed}
-use Rattle.rm_machine.specs.declared.state.State.{State}
-use Rattle.rm_machine.specs.State.{ledger}
+use Rattle.rm_machine.specs.{Effect.{Outcome, refused}, Hands.{Hands, Refuses}, Recovery.{skipped_lines}, Sound.{IsSound}, State.{ledger}}
+use Rattle.rm_machine.specs.declared.{handed.Handed.{Handed}, state.State.{State}}
 use Rattle.rm_machine.proofs.BackingUpLogs.{CanRecord, after_copies, can-next, can-record, copy-fits, copy-sound, room-for, room-next, with_copy}
-use Rattle.rm_machine.proofs.Handing.{hands-by}
-use Rattle.rm_machine.proofs.Left.{HasRoom}
-use Rattle.rm_machine.proofs.Standing.{each-in}
-use Rattle.rm_step_backup.specs.Logs.{AreRecorded, IsAll, IsRecorded}
-use Rattle.rm_step_backup.specs.declared.looking.Looked.{Looked}
+use Rattle.rm_machine.proofs.{Handing.{hands-by}, Left.{HasRoom}, Standing.{each-in}}
+use Rattle.rm_step_backup.specs.{Logs.{AreRecorded, IsAll, IsRecorded}, declared.looking.Looked.{Looked}}
 
 -- the logs alone
 abbrev pub logs_in : List (ℕ × LogFile) → List LogFile

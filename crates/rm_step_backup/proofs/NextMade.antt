@@ -1,22 +1,15 @@
 -- Objects that are made are recorded, one after another.
 use Rattle.std.proofs.Common.{◌≡◌, ◌∙◌, ◌++◌, ℕ, List, [], ◌∷◌, ap, refl, sym, subst, map}
 use Rattle.rm_catalog.specs.declared.record.Edit.{Edit}
-use Rattle.rm_catalog_typed.specs.Changes.{EditsFollow}
-use Rattle.rm_catalog_typed.specs.Fitting.{FitsNewSet}
+use Rattle.rm_catalog_typed.specs.{Changes.{EditsFollow}, Fitting.{FitsNewSet}}
 use Rattle.rm_lang_statement.specs.declared.command.BackupForm.{BackupForm}
 use Rattle.rm_machine.specs.MadeObjects.{CanRecord, Packed, alone, in_set}
-use Rattle.rm_machine.specs.MadeSets.{InSet, after_set, member_line, set_entry_for, set_object, set_of}
-use Rattle.rm_machine.specs.Sound.{IsSound}
-use Rattle.rm_machine.specs.State.{ledger}
-use Rattle.rm_machine.specs.declared.handed.Handed.{Handed}
-use Rattle.rm_machine.specs.declared.state.State.{State}
-use Rattle.rm_machine.proofs.Recording.{Stays, next-fits}
+use Rattle.rm_machine.specs.{MadeSets.{InSet, after_set, member_line, set_entry_for, set_object, set_of}, Sound.{IsSound}, State.{ledger}}
+use Rattle.rm_machine.{specs.declared.{handed.Handed.{Handed}, state.State.{State}}, proofs.Recording.{Stays, next-fits}}
 use Rattle.rm_piece.specs.declared.set.Set.{Set}
 use Rattle.rm_report.specs.declared.line.Line.{Line}
-use Rattle.rm_step_backup.specs.Making.{FitsNext, after_entry, line_under, made_of, object_under, told_member}
-use Rattle.rm_step_backup.specs.Recorded.{HasRecorded}
-use Rattle.rm_step_backup.specs.declared.making.Made.{Made}
-use Rattle.rm_step_backup.proofs.Filled.{made-twice}
+use Rattle.rm_step_backup.specs.{Making.{FitsNext, after_entry, line_under, made_of, object_under, told_member}, Recorded.{HasRecorded}}
+use Rattle.rm_step_backup.{specs.declared.making.Made.{Made}, proofs.Filled.{made-twice}}
 use Rattle.rm_step_backup.proofs.UnderWay.{IsUnderWay, way-end, way-on, way-start}
 
 module _ (s : State) (b : BackupForm) (tag : List ℕ) (xs : List Packed) (before : List Edit) (first : Handed) where

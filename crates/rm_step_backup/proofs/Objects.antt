@@ -1,16 +1,10 @@
 -- How many objects a backup makes, and what they count as.
 use Rattle.std.proofs.Common.{◌≡◌, ◌<◌, ◌≤◌, ◌+◌, ◌*◌, ◌/◌, ◌%◌, ◌-◌, ◌∙◌, inl, inr, ℕ, zero, suc, List, [], ◌∷◌, Option, Some, None, cond, is_none, min, ap, refl, subst, sym, arith, drop, length, length-drop, length-take, map, sum_by, take}
-use Rattle.std.proofs.lemmas.Bool.{cases_lt}
-use Rattle.std.proofs.lemmas.List.{length-map}
-use Rattle.std.proofs.lemmas.Grind.{div_ceil_times}
-use Rattle.std.proofs.lemmas.List.Sums.{sum_by-cons, sum_by-take-drop}
-use Rattle.rm_history.specs.World.{blocks_of}
-use Rattle.rm_history.specs.declared.world.World.{World}
+use Rattle.std.proofs.lemmas.{Bool.{cases_lt}, List.{length-map, Sums.{sum_by-cons, sum_by-take-drop}}, Grind.{div_ceil_times}}
+use Rattle.rm_history.specs.{World.{blocks_of}, declared.world.World.{World}}
 use Rattle.rm_lang_statement.specs.declared.command.BackupForm.{BackupForm}
-use Rattle.rm_machine.specs.Backup.{cut, grouped, object_bytes, objects_of, piece_bytes, taken}
-use Rattle.rm_machine.specs.Marks.{set_bytes}
+use Rattle.rm_machine.specs.{Backup.{cut, grouped, object_bytes, objects_of, piece_bytes, taken}, Marks.{set_bytes}, State.{world}}
 use Rattle.rm_machine.specs.declared.state.State.{State}
-use Rattle.rm_machine.specs.State.{world}
 
 -- A list that is cut into lists of n
 

@@ -1,20 +1,12 @@
 -- What a BACKUP's channels and writers made of the running database can be put back.
 use Rattle.std.proofs.Common.{◌≡◌, ℕ, List, [], ◌∷◌, Ok, refl, arith, map}
 use Rattle.rm_base.specs.declared.block.Row.{Row}
-use Rattle.rm_channel.specs.Jobs.{Span, found, found_of, lists, whole}
-use Rattle.rm_channel.specs.declared.jobs.CopyJob.{CopyJob}
-use Rattle.rm_channel.specs.declared.jobs.Work.{Work}
-use Rattle.rm_channel.specs.declared.jobs.WriteJob.{WriteJob}
-use Rattle.rm_channel.proofs.Mine.{total-append}
-use Rattle.rm_live.specs.Ruled.{total}
-use Rattle.rm_live.specs.Parts.{Parts}
-use Rattle.rm_machine.specs.Events.{after_events, opening}
-use Rattle.rm_machine.specs.Running.{CanFollow, HasRun, IsTakenOut}
-use Rattle.rm_machine.specs.Sound.{IsSound}
-use Rattle.rm_machine.specs.declared.state.State.{State}
+use Rattle.rm_channel.specs.{Jobs.{Span, found, found_of, lists, whole}, declared.jobs.{CopyJob.{CopyJob}, Work.{Work}}}
+use Rattle.rm_channel.{specs.declared.jobs.WriteJob.{WriteJob}, proofs.Mine.{total-append}}
+use Rattle.rm_live.specs.{Ruled.{total}, Parts.{Parts}}
+use Rattle.rm_machine.specs.{Events.{after_events, opening}, Running.{CanFollow, HasRun, IsTakenOut}, Sound.{IsSound}}
+use Rattle.rm_machine.{specs.declared.state.State.{State}, proofs.{Ended.{is_once}, Ran.{has-run as ran}}}
 use Rattle.rm_step_backup.specs.Running.{HasGone, HasRunLive}
-use Rattle.rm_machine.proofs.Ended.{is_once}
-use Rattle.rm_machine.proofs.Ran.{has-run as ran}
 
 once-found : (f : ℕ) (bs : List ℕ) (rows : List Row) → total is_once (found f bs rows) ≡ 0
 once-found f [] rows = refl

@@ -1,21 +1,11 @@
 -- What a BACKUP that was not refused has for its channels and writers.
-use Rattle.std.proofs.Common.{◌∙◌, List, refl, sym, subst, All, ◌≡◌}
-use Rattle.std.proofs.lemmas.List.Elements.{All-weaker}
+use Rattle.std.proofs.{Common.{◌∙◌, List, refl, sym, subst, All, ◌≡◌}, lemmas.List.Elements.{All-weaker}}
 use Rattle.rm_channel.specs.Room.{AreThreads, CanWrite}
 use Rattle.rm_live.specs.Parts.{Parts}
 use Rattle.rm_lang_statement.specs.declared.command.BackupForm.{BackupForm}
-use Rattle.rm_machine.specs.Backup.{AreJobs}
-use Rattle.rm_machine.specs.Sound.{IsSound}
-use Rattle.rm_machine.specs.declared.job.Job.{Job}
-use Rattle.rm_machine.specs.declared.state.State.{State}
-use Rattle.rm_machine.specs.State.{placed}
-use Rattle.rm_machine.proofs.Backups.{IsTaken}
-use Rattle.rm_machine.proofs.BackingUp.{IsReadyToRead, jobs-ready}
-use Rattle.rm_machine.specs.Asked.{writers_of, writes_in}
-use Rattle.rm_machine.specs.Events.{opening}
-use Rattle.rm_machine.specs.BackupOutcome.{begun}
-use Rattle.rm_machine.proofs.BackupAccepted.{CanBackUp}
-use Rattle.rm_machine.proofs.BackupMarks.{marked-same}
+use Rattle.rm_machine.specs.{Backup.{AreJobs}, Sound.{IsSound}, State.{placed}, Asked.{writers_of, writes_in}, Events.{opening}}
+use Rattle.rm_machine.{specs.{BackupOutcome.{begun}, declared.{job.Job.{Job}, state.State.{State}}}, proofs.Backups.{IsTaken}}
+use Rattle.rm_machine.proofs.{BackingUp.{IsReadyToRead, jobs-ready}, BackupAccepted.{CanBackUp}, BackupMarks.{marked-same}}
 use Rattle.rm_machine.proofs.WritersRoom.{room-threads, room-writes}
 use Rattle.rm_step_backup.specs.Copying.{Stands}
 

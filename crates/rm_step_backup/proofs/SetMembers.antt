@@ -1,15 +1,10 @@
 -- The members of a set are made, one after another.
 use Rattle.std.proofs.Common.{◌≡◌, ◌++◌, ℕ, List, [], ◌∷◌, All, subst, arith, get_or, length, map, refl}
-use Rattle.std.proofs.lemmas.List.{get_or-map, length-map}
-use Rattle.std.proofs.lemmas.List.Elements.{All-head, All-tail}
-use Rattle.rm_piece.specs.declared.set.SetFile.{SetFile}
-use Rattle.rm_piece.specs.Sets.{IsSet}
-use Rattle.rm_piece.specs.Valid.{IsPiece}
+use Rattle.std.proofs.lemmas.List.{get_or-map, length-map, Elements.{All-head, All-tail}}
+use Rattle.rm_piece.specs.{Sets.{IsSet}, Valid.{IsPiece}, declared.set.SetFile.{SetFile}}
 use Rattle.rm_catalog_typed.specs.Ledger.{Ledger}
 use Rattle.rm_machine.specs.MadeSets.{InSet, set_of}
-use Rattle.rm_step_backup.specs.Making.{told_member}
-use Rattle.rm_step_backup.specs.declared.making.Told.{Told}
-use Rattle.rm_step_backup.proofs.Filled.{filled-on}
+use Rattle.rm_step_backup.{specs.{Making.{told_member}, declared.making.Told.{Told}}, proofs.Filled.{filled-on}}
 
 -- its piece is valid
 abbrev IsValidIn : InSet → Type 0

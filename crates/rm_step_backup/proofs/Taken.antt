@@ -1,17 +1,11 @@
 -- The datafiles that a backup takes, one after another.
 use Rattle.std.proofs.Common.{◌≡◌, ◌<◌, ◌≤◌, ◌+◌, ◌∙◌, ℕ, zero, suc, List, [], ◌∷◌, Some, Bool, true, false, cond, refl, ap, arith, length, get_or, drop, find, is_none, sum_by}
-use Rattle.std.proofs.lemmas.List.Elements.{All-get_or}
-use Rattle.std.proofs.lemmas.List.Sums.{sum_by-cons}
-use Rattle.std.proofs.lemmas.Option.{slice_get-get_or}
+use Rattle.std.proofs.lemmas.{List.{Elements.{All-get_or}, Sums.{sum_by-cons}}, Option.{slice_get-get_or}}
 use Rattle.rm_lang_statement.specs.declared.command.BackupForm.{BackupForm}
-use Rattle.rm_history.specs.World.{blocks_of}
-use Rattle.rm_history.specs.declared.world.Datafile.{Datafile}
+use Rattle.rm_history.specs.{World.{blocks_of}, declared.world.Datafile.{Datafile}}
 use Rattle.rm_catalog_typed.specs.LedgerFacts.{IsCreated}
-use Rattle.rm_machine.specs.Backup.{is_taken, taken_from}
-use Rattle.rm_machine.proofs.Numbers.{blocks-at}
-use Rattle.rm_machine.specs.Sound.{IsSound}
-use Rattle.rm_machine.specs.declared.state.State.{State}
-use Rattle.rm_machine.specs.State.{ledger, placed, tree, world}
+use Rattle.rm_machine.specs.{Backup.{is_taken, taken_from}, Sound.{IsSound}, State.{ledger, placed, tree, world}}
+use Rattle.rm_machine.{specs.declared.state.State.{State}, proofs.Numbers.{blocks-at}}
 
 -- those from the datafile at place k on
 taken-at : (s : State) (b : BackupForm) (f : ℕ) (ds : List Datafile) (k : ℕ) (d : Datafile) (t : Bool) → k < length ds → is_taken s b f (get_or ds k d) ≡ t → taken_from s b f (drop k ds) ≡ cond t (f ∷ taken_from s b (f + 1) (drop (suc k) ds)) (taken_from s b (f + 1) (drop (suc k) ds))

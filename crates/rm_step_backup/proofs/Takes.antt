@@ -1,14 +1,11 @@
 -- Whether a backup takes the datafile of a number.
+use Rattle.std.specs.{List.{list_any}, Option.{option_and_then, option_map_or}}
 use Rattle.std.proofs.Common.{◌≡◌, ◌<◌, ◌+◌, ◌-◌, ◌∙◌, ◌==◌, ◌&&◌, ◌||◌, ℕ, zero, suc, List, [], ◌∷◌, Option, Some, None, Bool, true, false, cond, refl, ap, sym, arith, slice_get}
-use Rattle.std.specs.List.{list_any}
-use Rattle.std.specs.Option.{option_and_then, option_map_or}
 use Rattle.std.proofs.lemmas.Bool.{eq-eqb, ne_eqb}
-use Rattle.rm_history.specs.declared.world.Datafile.{Datafile}
-use Rattle.rm_history.specs.World.{exists, file_of}
+use Rattle.rm_history.specs.{World.{exists, file_of}, declared.world.Datafile.{Datafile}}
 use Rattle.rm_lang_statement.specs.declared.command.BackupForm.{BackupForm}
-use Rattle.rm_machine.specs.Backup.{asks_for, is_taken, taken, taken_from}
+use Rattle.rm_machine.specs.{Backup.{asks_for, is_taken, taken, taken_from}, State.{current_of, ledger, now_of, on_path, world}}
 use Rattle.rm_machine.specs.declared.state.State.{State}
-use Rattle.rm_machine.specs.State.{current_of, ledger, now_of, on_path, world}
 
 -- the first of them is another one, or it is this one
 other-first : (t : Bool) (f n : ℕ) (rest : List ℕ) → (f == n) ≡ false → list_any (λ g. g == n) (cond t (f ∷ rest) rest) ≡ list_any (λ g. g == n) rest

@@ -1,16 +1,12 @@
 -- A BACKUP under way: some objects are recorded, and the rest lead on from there.
-use Rattle.std.proofs.Common.{◌≡◌, ◌∙◌, ◌++◌, ℕ, List, [], ◌∷◌, refl, ap, sym, subst, append_assoc}
-use Rattle.std.proofs.lemmas.List.{append-nil}
+use Rattle.std.proofs.{Common.{◌≡◌, ◌∙◌, ◌++◌, ℕ, List, [], ◌∷◌, refl, ap, sym, subst, append_assoc}, lemmas.List.{append-nil}}
 use Rattle.rm_catalog.specs.declared.record.Edit.{Edit}
 use Rattle.rm_commit.specs.declared.commit.Object.{Object}
 use Rattle.rm_report.specs.declared.line.Line.{Line}
-use Rattle.rm_catalog_typed.specs.Changes.{EditsFollow}
-use Rattle.rm_catalog_typed.proofs.Changed.{follows-then}
+use Rattle.rm_catalog_typed.{specs.Changes.{EditsFollow}, proofs.Changed.{follows-then}}
 use Rattle.rm_lang_statement.specs.declared.command.BackupForm.{BackupForm}
 use Rattle.rm_machine.specs.MadeObjects.{CanRecord, Packed, after_object, after_objects, lines_of, object_lines, object_put, objects_put}
-use Rattle.rm_machine.specs.Sound.{IsSound}
-use Rattle.rm_machine.specs.declared.handed.Handed.{Handed}
-use Rattle.rm_machine.specs.declared.state.State.{State}
+use Rattle.rm_machine.specs.{Sound.{IsSound}, declared.{handed.Handed.{Handed}, state.State.{State}}}
 use Rattle.rm_machine.proofs.Recording.{Stays, can-next, next-sound, next-stays}
 use Rattle.rm_step_backup.specs.Recorded.{HasRecorded}
 

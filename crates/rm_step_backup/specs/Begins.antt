@@ -1,11 +1,8 @@
 -- Where the backup of a datafile begins, by records or by none.
-use Rattle.std.specs.Prelude.{ℕ, ◌≡◌, if◌then◌else◌, Option, Some, None, List, All, map}
-use Rattle.std.specs.Option.{option_map}
+use Rattle.std.specs.{Prelude.{ℕ, ◌≡◌, if◌then◌else◌, Option, Some, None, List, All, map}, Option.{option_map}}
 use Rattle.rm_backup.specs.Parents.{IsParent}
 use Rattle.rm_catalog.specs.declared.record.Record.{Record}
-use Rattle.rm_machine.specs.Backup.{is_level1}
-use Rattle.rm_machine.specs.declared.job.Job.{Job}
-use Rattle.rm_machine.specs.declared.state.State.{State}
+use Rattle.rm_machine.specs.{Backup.{is_level1}, declared.{job.Job.{Job}, state.State.{State}}}
 use Rattle.rm_catalog_typed.specs.TypedCatalog.{records_of}
 use Rattle.rm_lang_statement.specs.declared.command.BackupForm.{BackupForm}
 

@@ -1,14 +1,8 @@
 -- The copies that a BACKUP asks for.
 use Rattle.std.specs.Prelude.{ℕ, ◌≡◌, ◌≤◌, ◌<◌, Some, List, All, map}
 use Rattle.rm_blocks.specs.File.{File}
-use Rattle.rm_channel.specs.Jobs.{whole}
-use Rattle.rm_channel.specs.Room.{IsThere}
-use Rattle.rm_channel.specs.declared.jobs.CopyJob.{CopyJob}
-use Rattle.rm_machine.specs.Asked.{span_of}
-use Rattle.rm_machine.specs.Events.{opening}
-use Rattle.rm_machine.specs.declared.job.Job.{Job}
-use Rattle.rm_machine.specs.declared.state.State.{State}
-use Rattle.rm_machine.specs.State.{placed}
+use Rattle.rm_channel.specs.{Jobs.{whole}, Room.{IsThere}, declared.jobs.CopyJob.{CopyJob}}
+use Rattle.rm_machine.specs.{Asked.{span_of}, Events.{opening}, State.{placed}, declared.{job.Job.{Job}, state.State.{State}}}
 use Rattle.rm_track.specs.Bitmaps.{Tracked, tracked_at}
 
 -- the datafile of this number stands in place

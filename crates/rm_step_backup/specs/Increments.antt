@@ -1,26 +1,14 @@
 -- What an increment for a standby is made of, by any form of backup.
-use Rattle.std.specs.Prelude.{ℕ, ◌<◌, if◌then◌else◌, Option, Some, List, All, length, map}
-use Rattle.std.specs.Option.{option_map_or}
-use Rattle.rm_base.specs.declared.refusal.Limit.TheVariants.{Bytes, ObjectIds}
-use Rattle.rm_base.specs.declared.refusal.Refusal.{Refusal}
-use Rattle.rm_base.specs.declared.refusal.Refusal.TheVariants.{Rm09, Rm11}
+use Rattle.std.specs.{Prelude.{ℕ, ◌<◌, if◌then◌else◌, Option, Some, List, All, length, map}, Option.{option_map_or}}
+use Rattle.rm_base.specs.declared.refusal.{Limit.TheVariants.{Bytes, ObjectIds}, Refusal.{Refusal, TheVariants.{Rm09, Rm11}}}
 use Rattle.rm_commit.specs.declared.commit.Object.{Object}
 use Rattle.rm_evidence.specs.Names.{roll_name}
 use Rattle.rm_lang_statement.specs.declared.command.BackupForm.{BackupForm}
-use Rattle.rm_machine.specs.Backup.{lost_taken, rows_in, taken}
-use Rattle.rm_machine.specs.BackupRefusal.{damage_refusal}
-use Rattle.rm_machine.specs.MadeSets.{member_by}
-use Rattle.rm_machine.specs.Marks.{lacks_bytes, lacks_ids, set_bytes}
-use Rattle.rm_machine.specs.Roll.{rows_listed}
-use Rattle.rm_machine.specs.State.{ledger, world, current_of, now_of}
-use Rattle.rm_machine.specs.declared.job.Job.{Job}
-use Rattle.rm_machine.specs.declared.state.State.{State}
-use Rattle.rm_piece.specs.SetSpelling.{set_spelling}
-use Rattle.rm_piece.specs.Valid.{IsPiece}
-use Rattle.rm_piece.specs.declared.set.Set.{Set}
-use Rattle.rm_piece.specs.declared.set.SetFile.{SetFile}
-use Rattle.rm_report.specs.declared.line.Line.{Line}
-use Rattle.rm_report.specs.declared.line.Line.TheVariants.{Rolled}
+use Rattle.rm_machine.specs.{Backup.{lost_taken, rows_in, taken}, BackupRefusal.{damage_refusal}, MadeSets.{member_by}}
+use Rattle.rm_machine.specs.{Marks.{lacks_bytes, lacks_ids, set_bytes}, Roll.{rows_listed}, State.{ledger, world, current_of, now_of}}
+use Rattle.rm_machine.specs.declared.{job.Job.{Job}, state.State.{State}}
+use Rattle.rm_piece.specs.{SetSpelling.{set_spelling}, Valid.{IsPiece}, declared.set.{Set.{Set}, SetFile.{SetFile}}}
+use Rattle.rm_report.specs.declared.line.Line.{Line, TheVariants.{Rolled}}
 
 -- why a set of the datafiles that a form takes can't be made: too few bytes or ids are left, or a block is damaged
 abbrev pub room_by : State → BackupForm → Option Refusal

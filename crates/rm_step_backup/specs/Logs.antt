@@ -1,16 +1,11 @@
 -- What was looked at of archived logs.
 use Rattle.std.specs.Prelude.{ℕ, ◌≤◌, ◌+◌, List, [], All, Contains, length}
-use Rattle.rm_base.specs.Store.{Held}
-use Rattle.rm_base.specs.declared.kinds.Bad.{Bad}
+use Rattle.rm_base.specs.{Store.{Held}, declared.kinds.Bad.{Bad}}
 use Rattle.rm_catalog.specs.declared.record.LogEntry.{LogEntry}
-use Rattle.rm_evidence.specs.Available.{IsSkipped, IsSkippedAmong}
-use Rattle.rm_evidence.specs.Database.{Database}
-use Rattle.rm_evidence.specs.Gathered.{ById, IsLogOf, Lists}
-use Rattle.rm_evidence.specs.Taking.{Extends}
-use Rattle.rm_machine.specs.BackupLogs.{archived_in}
+use Rattle.rm_evidence.specs.{Available.{IsSkipped, IsSkippedAmong}, Database.{Database}, Gathered.{ById, IsLogOf, Lists}, Taking.{Extends}}
 use Rattle.rm_evidence.specs.Objects.{HasLogFields}
-use Rattle.rm_redo.specs.declared.log_file.LogFile.{LogFile}
-use Rattle.rm_redo.specs.LogFormat.{IsLogFile}
+use Rattle.rm_machine.specs.BackupLogs.{archived_in}
+use Rattle.rm_redo.specs.{LogFormat.{IsLogFile}, declared.log_file.LogFile.{LogFile}}
 use Rattle.rm_step_backup.specs.declared.looking.Looked.{Looked}
 
 -- the records of logs alone tell of none, and no log is compared with one

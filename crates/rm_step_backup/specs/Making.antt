@@ -1,36 +1,18 @@
 -- The objects of a backup, each made of what was read for it.
 use Rattle.std.specs.Prelude.{ℕ, Option, Some, None, List, [], ◌∷◌, length, map}
 use Rattle.rm_base.specs.declared.block.Row.{Row}
-use Rattle.rm_catalog.specs.declared.record.PieceEntry.{PieceEntry}
-use Rattle.rm_catalog.specs.declared.record.SetEntry.{SetEntry}
-use Rattle.rm_catalog_typed.specs.Changes.{with_new_piece, with_new_set}
-use Rattle.rm_catalog_typed.specs.Fitting.{FitsNewPiece, FitsNewSet}
-use Rattle.rm_catalog_typed.specs.Ledger.{Ledger}
+use Rattle.rm_catalog.specs.declared.record.{PieceEntry.{PieceEntry}, SetEntry.{SetEntry}}
+use Rattle.rm_catalog_typed.specs.{Changes.{with_new_piece, with_new_set}, Fitting.{FitsNewPiece, FitsNewSet}, Ledger.{Ledger}}
 use Rattle.rm_commit.specs.declared.commit.Object.{Object}
 use Rattle.rm_evidence.specs.Names.{piece_name, set_name}
 use Rattle.rm_lang_statement.specs.declared.command.BackupForm.{BackupForm}
-use Rattle.rm_machine.specs.Backup.{grouped, is_copy}
-use Rattle.rm_machine.specs.Lists.{packing_by, shape_by}
-use Rattle.rm_machine.specs.MadeObjects.{Packed, alone, in_set}
-use Rattle.rm_machine.specs.MadePieces.{Copied, entry_for, piece_by}
-use Rattle.rm_machine.specs.MadeSets.{InSet, member_by, set_entry_for, set_of}
-use Rattle.rm_machine.specs.State.{ledger}
-use Rattle.rm_machine.specs.declared.job.Job.{Job}
-use Rattle.rm_machine.specs.declared.state.State.{State}
-use Rattle.rm_piece.specs.SetSpelling.{set_spelling, spelled}
-use Rattle.rm_piece.specs.Sets.{IsSet}
-use Rattle.rm_piece.specs.Spelling.{spelling}
-use Rattle.rm_piece.specs.Valid.{IsPiece}
-use Rattle.rm_report.specs.declared.line.Line.{Line}
-use Rattle.rm_report.specs.declared.line.Line.TheVariants.{BackedUp}
-use Rattle.rm_report.specs.declared.line.Packing.TheVariants as packing
-use Rattle.rm_step_backup.specs.declared.making.Entry.{Entry}
-use Rattle.rm_step_backup.specs.declared.making.Entry.TheVariants.{OfPiece, OfSet}
-use Rattle.rm_step_backup.specs.declared.making.Made.{Made}
-use Rattle.rm_step_backup.specs.declared.making.Told.{Told}
-use Rattle.rm_step_backup.specs.declared.reading.FileRead.{FileRead}
-use Rattle.rm_step_backup.specs.declared.reading.Read.{Read}
-use Rattle.rm_step_backup.specs.declared.reading.Read.TheVariants.{OfOne, OfSeveral}
+use Rattle.rm_machine.specs.{Backup.{grouped, is_copy}, Lists.{packing_by, shape_by}, MadeObjects.{Packed, alone, in_set}}
+use Rattle.rm_machine.specs.{MadePieces.{Copied, entry_for, piece_by}, MadeSets.{InSet, member_by, set_entry_for, set_of}, State.{ledger}}
+use Rattle.rm_machine.specs.declared.{job.Job.{Job}, state.State.{State}}
+use Rattle.rm_piece.specs.{SetSpelling.{set_spelling, spelled}, Sets.{IsSet}, Spelling.{spelling}, Valid.{IsPiece}}
+use Rattle.rm_report.specs.declared.line.{Line.{Line, TheVariants.{BackedUp}}, Packing.TheVariants as packing}
+use Rattle.rm_step_backup.specs.declared.making.{Entry.{Entry, TheVariants.{OfPiece, OfSet}}, Made.{Made}, Told.{Told}}
+use Rattle.rm_step_backup.specs.declared.reading.{FileRead.{FileRead}, Read.{Read, TheVariants.{OfOne, OfSeveral}}}
 
 -- What was read for each object
 

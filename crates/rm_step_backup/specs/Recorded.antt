@@ -3,8 +3,7 @@ use Rattle.std.specs.Prelude.{ℕ, ◌≡◌, ◌++◌, List}
 use Rattle.rm_catalog.specs.declared.record.Edit.{Edit}
 use Rattle.rm_catalog_typed.specs.Changes.{EditsFollow}
 use Rattle.rm_lang_statement.specs.declared.command.BackupForm.{BackupForm}
-use Rattle.rm_machine.specs.MadeObjects.{Packed, after_objects, object_lines, objects_put}
-use Rattle.rm_machine.specs.declared.handed.Handed.{Handed}
+use Rattle.rm_machine.specs.{MadeObjects.{Packed, after_objects, object_lines, objects_put}, declared.handed.Handed.{Handed}}
 use Rattle.rm_machine.specs.declared.state.State.{State}
 
 -- from the state s on these objects are recorded: the state is t, and what is handed out has their lines and objects

@@ -1,16 +1,9 @@
 -- What a BACKUP's channels and writers made of the running database.
 use Rattle.std.specs.Prelude.{◌≡◌, List, map}
-use Rattle.rm_channel.specs.Jobs.{AreAsLong, AreRows, lists, whole}
-use Rattle.rm_channel.specs.Made.{AreThese, deed}
-use Rattle.rm_channel.specs.Runs.{work_told}
-use Rattle.rm_channel.specs.declared.jobs.CopyJob.{CopyJob}
-use Rattle.rm_channel.specs.declared.jobs.Work.{Work}
-use Rattle.rm_channel.specs.declared.jobs.WriteJob.{WriteJob}
-use Rattle.rm_live.specs.declared.history.Event.{Event}
-use Rattle.rm_live.specs.History.{IsLegal, fold_of}
-use Rattle.rm_live.specs.Parts.{Parts}
-use Rattle.rm_machine.specs.declared.state.State.{State}
-use Rattle.rm_machine.specs.Events.{after_events, opening}
+use Rattle.rm_channel.specs.{Jobs.{AreAsLong, AreRows, lists, whole}, Made.{AreThese, deed}, Runs.{work_told}}
+use Rattle.rm_channel.specs.declared.jobs.{CopyJob.{CopyJob}, Work.{Work}, WriteJob.{WriteJob}}
+use Rattle.rm_live.specs.{History.{IsLegal, fold_of}, Parts.{Parts}, declared.history.Event.{Event}}
+use Rattle.rm_machine.specs.{Events.{after_events, opening}, declared.state.State.{State}}
 
 -- There is a legal list of events over the database at its start, which are the reads and writes that were asked for, with the answers that
 -- the work has. The state is the one that they leave.

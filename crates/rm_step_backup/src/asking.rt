@@ -1,8 +1,6 @@
 //! What a BACKUP asks of its channels.
-ghost use Rattle.std.specs.Prelude.{◌≡◌, All, IfOk, IfSome};
-ghost use Rattle.std.specs.Option.{option_map};
-ghost use Rattle.rm_machine.specs.Asked.{candidates_in};
-ghost use Rattle.rm_machine.specs.Sound.{IsSound};
+ghost use Rattle.std.specs.{Prelude.{◌≡◌, All, IfOk, IfSome}, Option.{option_map}};
+ghost use Rattle.rm_machine.specs.{Asked.{candidates_in}, Sound.{IsSound}};
 ghost use Rattle.rm_step_backup.specs.Copying.{AreCopiesOf, IsCopyOf, Stands};
 ghost use Rattle.rm_track.specs.Bits.{IsBits, marks_of};
 

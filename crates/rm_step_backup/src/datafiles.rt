@@ -1,9 +1,7 @@
 //! The datafiles that a backup takes.
-ghost use Rattle.std.specs.Prelude.{◌≡◌, ◌<◌, ◌≤◌, ◌==◌, IfOk, IfSome, is_none, length, sum_by};
-ghost use Rattle.std.specs.List.{list_any};
+ghost use Rattle.std.specs.{Prelude.{◌≡◌, ◌<◌, ◌≤◌, ◌==◌, IfOk, IfSome, is_none, length, sum_by}, List.{list_any}};
 ghost use Rattle.rm_history.specs.World.{blocks_of};
-ghost use Rattle.rm_machine.specs.Backup.{asks_for, is_taken, lost_taken, object_bytes, objects_of, taken};
-ghost use Rattle.rm_machine.specs.Sound.{IsSound};
+ghost use Rattle.rm_machine.specs.{Backup.{asks_for, is_taken, lost_taken, object_bytes, objects_of, taken}, Sound.{IsSound}};
 ghost use Rattle.rm_machine.specs.State.{placed, world};
 
 use rm_base::{FileNo, NoMemory};

@@ -1,10 +1,8 @@
 //! What a backup makes of each datafile that it takes.
-ghost use Rattle.std.specs.Prelude.{◌≡◌, false, IfOk, IfSome, IsSome};
-ghost use Rattle.std.specs.Option.{option_copied};
+ghost use Rattle.std.specs.{Prelude.{◌≡◌, false, IfOk, IfSome, IsSome}, Option.{option_copied}};
 ghost use Rattle.rm_step_backup.specs.Begins.{AreJobsBy, BeginsBy, records_for};
 ghost use Rattle.rm_catalog.specs.Rules.{HasDatabase};
-ghost use Rattle.rm_machine.specs.Backup.{AreJobs, is_level1};
-ghost use Rattle.rm_machine.specs.Sound.{IsSound};
+ghost use Rattle.rm_machine.specs.{Backup.{AreJobs, is_level1}, Sound.{IsSound}};
 
 use crate::datafiles::taken;
 use rm_backup::parent;

@@ -2,17 +2,11 @@
 ghost use Rattle.std.specs.Prelude.{◌≡◌, ◌≤◌, ◌++◌, ◌∷◌, [], All, IfErr, IfOk, IsErrOf, None, OnOk, false, if◌then◌else◌, length, map, sum_by, ◌==◌};
 ghost use Rattle.rm_base.specs.Outside.{Rose};
 ghost use Rattle.rm_machine.specs.BackupLogs.{copies_of, copies_refusal, copy_entry, copy_line, copy_object, file_bytes, with_copies};
-ghost use Rattle.rm_machine.specs.Hands.{Hands, Refuses};
-ghost use Rattle.rm_machine.specs.Marks.{lacks_ids};
-ghost use Rattle.rm_machine.specs.Recovery.{skipped_lines};
-ghost use Rattle.rm_machine.specs.Sound.{IsSound};
-ghost use Rattle.rm_machine.specs.State.{ledger};
+ghost use Rattle.rm_machine.specs.{Hands.{Hands, Refuses}, Marks.{lacks_ids}, Recovery.{skipped_lines}, Sound.{IsSound}, State.{ledger}};
 ghost use Rattle.rm_machine.specs.Upkeep.{with_catalog};
 ghost use Rattle.rm_redo.specs.LogFormat.{IsLogFile};
-ghost use Rattle.rm_report.specs.Reply.{HasDate, IsPlain};
-ghost use Rattle.rm_report.specs.declared.line.Line.TheVariants.{NothingToBackUp};
-ghost use Rattle.rm_catalog_typed.specs.Changes.{EditsFollow, with_new_log};
-ghost use Rattle.rm_catalog_typed.specs.Fitting.{FitsNewLog};
+ghost use Rattle.rm_report.specs.{Reply.{HasDate, IsPlain}, declared.line.Line.TheVariants.{NothingToBackUp}};
+ghost use Rattle.rm_catalog_typed.specs.{Changes.{EditsFollow, with_new_log}, Fitting.{FitsNewLog}};
 ghost use Rattle.rm_lang_statement.specs.declared.command.Command.TheVariants.{BackupLogs};
 ghost use Rattle.rm_step_backup.specs.Logs.{AreRecorded};
 

@@ -1,9 +1,7 @@
 //! The archived logs that count as available, as the store has them.
 ghost use Rattle.std.specs.Prelude.{◌≡◌, ◌≤◌, ◌&&◌, ◌∷◌, [], IfOk, IfSome, IsErrOf, OnOk};
 ghost use Rattle.rm_base.specs.Outside.{Rose};
-ghost use Rattle.rm_machine.specs.Sound.{IsSound};
-ghost use Rattle.rm_machine.specs.State.{ledger};
-ghost use Rattle.rm_machine.specs.Validate.{is_available};
+ghost use Rattle.rm_machine.specs.{Sound.{IsSound}, State.{ledger}, Validate.{is_available}};
 ghost use Rattle.rm_step_backup.specs.Logs.{Adds, AreRecorded, IsAll, KeepsRecords};
 
 use rm_base::{Bad, Seq, Status, Store};

@@ -1,17 +1,12 @@
 //! The piece of a datafile, its record, its bytes and what is told of it.
-ghost use Rattle.std.specs.Prelude.{◌≡◌, ◌<◌, ◌≤◌, IfOk};
-ghost use Rattle.std.specs.Option.{option_copied};
+ghost use Rattle.std.specs.{Prelude.{◌≡◌, ◌<◌, ◌≤◌, IfOk}, Option.{option_copied}};
 ghost use Rattle.rm_base.specs.Numbers.{last_moment};
 ghost use Rattle.rm_history.specs.World.{blocks_of};
-ghost use Rattle.rm_machine.specs.MadePieces.{piece_by};
+ghost use Rattle.rm_machine.specs.{MadePieces.{piece_by}, Backup.{IsTagBy, is_copy, kind_by, named_tag, rows_from, rows_in}};
+ghost use Rattle.rm_machine.specs.{Sound.{IsSound}, State.{ledger, world}};
 ghost use Rattle.rm_evidence.specs.Objects.{piece_entry};
-ghost use Rattle.rm_machine.specs.Backup.{IsTagBy, is_copy, kind_by, named_tag, rows_from, rows_in};
-ghost use Rattle.rm_machine.specs.Sound.{IsSound};
-ghost use Rattle.rm_machine.specs.State.{ledger, world};
-ghost use Rattle.rm_piece.specs.Spelling.{spelling};
-ghost use Rattle.rm_piece.specs.Valid.{IsPiece};
-ghost use Rattle.rm_step_backup.specs.Making.{made_by, told_alone};
-ghost use Rattle.rm_step_backup.specs.declared.reading.Read.TheVariants.{OfOne};
+ghost use Rattle.rm_piece.specs.{Spelling.{spelling}, Valid.{IsPiece}};
+ghost use Rattle.rm_step_backup.specs.{Making.{made_by, told_alone}, declared.reading.Read.TheVariants.{OfOne}};
 ghost use Rattle.sha2.specs.Sha256.{sha256};
 
 use crate::making::{Entry, Made, Told};

@@ -2,8 +2,7 @@
 ghost use Rattle.std.specs.Prelude.{◌≡◌, ◌≤◌, IfOk, IfSome, length, map};
 ghost use Rattle.rm_channel.specs.Jobs.{lists};
 ghost use Rattle.rm_machine.specs.Backup.{cut};
-ghost use Rattle.rm_step_backup.specs.declared.reading.Read.TheVariants.{OfOne, OfSeveral};
-ghost use Rattle.rm_step_backup.specs.Making.{files_of, reads_by};
+ghost use Rattle.rm_step_backup.specs.{Making.{files_of, reads_by}, declared.reading.Read.TheVariants.{OfOne, OfSeveral}};
 
 use rm_base::{NoMemory, Row, Seq};
 use rm_lang_statement::BackupForm;

@@ -2,11 +2,8 @@
 ghost use Rattle.std.specs.Prelude.{◌≡◌, ◌≤◌, ◌∷◌, ◌++◌, [], IfOk, IfSome, OnOk, length, map};
 ghost use Rattle.rm_catalog_typed.specs.Changes.{EditsFollow};
 ghost use Rattle.rm_channel.specs.Jobs.{lists};
-ghost use Rattle.rm_machine.specs.MadeObjects.{CanRecord, packed};
-ghost use Rattle.rm_machine.specs.Sound.{IsSound};
-ghost use Rattle.rm_machine.specs.State.{ledger};
-ghost use Rattle.rm_step_backup.specs.Making.{FitsNext, after_entry, line_under, name_under, object_under};
-ghost use Rattle.rm_step_backup.specs.Recorded.{HasRecorded};
+ghost use Rattle.rm_machine.specs.{MadeObjects.{CanRecord, packed}, Sound.{IsSound}, State.{ledger}};
+ghost use Rattle.rm_step_backup.specs.{Making.{FitsNext, after_entry, line_under, name_under, object_under}, Recorded.{HasRecorded}};
 
 use crate::making::{Entry, Made, Told, make_all};
 use crate::reading::reads_of;

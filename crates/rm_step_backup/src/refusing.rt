@@ -3,9 +3,7 @@ ghost use Rattle.std.specs.Prelude.{◌≡◌, ◌≤◌, IfSome, None};
 ghost use Rattle.rm_lang_statement.specs.declared.command.Command.TheVariants.{Backup};
 ghost use Rattle.rm_machine.specs.Asked.{writes_in};
 ghost use Rattle.rm_machine.specs.BackupRefusal.{absent_of, backup_refusal, damage_refusal, damaged_taken, lost_refusal, room_refusal};
-ghost use Rattle.rm_machine.specs.Backup.{absent};
-ghost use Rattle.rm_machine.specs.Sound.{IsSound};
-ghost use Rattle.rm_machine.specs.Step.{IsStatement};
+ghost use Rattle.rm_machine.specs.{Backup.{absent}, Sound.{IsSound}, Step.{IsStatement}};
 
 use crate::datafiles::{lost_taken, object_bytes, object_count, takes};
 use rm_base::{Absent, BlockId, Limit, Refusal};

@@ -1,19 +1,12 @@
 //! BACKUP INCREMENTAL FROM SCN: an increment of all datafiles, by which a standby is rolled forward.
 ghost use Rattle.std.specs.Prelude.{◌≡◌, ◌<◌, ◌≤◌, ◌+◌, ◌∷◌, [], Option, None, IfOk, OnOk};
 ghost use Rattle.rm_base.specs.Store.{Held};
-ghost use Rattle.rm_catalog_typed.specs.Changes.{EditsFollow};
-ghost use Rattle.rm_catalog_typed.specs.Fitting.{FitsBase};
+ghost use Rattle.rm_catalog_typed.specs.{Changes.{EditsFollow}, Fitting.{FitsBase}};
 ghost use Rattle.rm_lang_statement.specs.declared.command.Command.TheVariants.{BackupFrom};
-ghost use Rattle.rm_machine.specs.Backup.{taken};
-ghost use Rattle.rm_machine.specs.Hands.{Hands};
-ghost use Rattle.rm_machine.specs.Marks.{set_bytes};
-ghost use Rattle.rm_machine.specs.Roll.{of_all, roll_refusal, rows_listed, with_next_id};
-ghost use Rattle.rm_machine.specs.Sound.{IsSound};
-ghost use Rattle.rm_machine.specs.State.{ledger, tree, world};
-ghost use Rattle.rm_machine.specs.Step.{refusal_of};
-ghost use Rattle.rm_machine.specs.Upkeep.{with_catalog};
-ghost use Rattle.rm_piece.specs.Sets.{IsSet};
-ghost use Rattle.rm_piece.specs.Valid.{IsPiece};
+ghost use Rattle.rm_machine.specs.{Backup.{taken}, Hands.{Hands}, Marks.{set_bytes}};
+ghost use Rattle.rm_machine.specs.{Roll.{of_all, roll_refusal, rows_listed, with_next_id}, Sound.{IsSound}, State.{ledger, tree, world}};
+ghost use Rattle.rm_machine.specs.{Step.{refusal_of}, Upkeep.{with_catalog}};
+ghost use Rattle.rm_piece.specs.{Sets.{IsSet}, Valid.{IsPiece}};
 ghost use Rattle.rm_step_backup.specs.Increments.{CanStand, jobs_of, line_of, lost_by, object_of, room_by, standing_member, standing_set};
 
 use crate::datafiles::{lost_taken, taken, taken_blocks, taken_count};

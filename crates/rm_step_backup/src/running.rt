@@ -1,12 +1,9 @@
 //! The running database, which is live while it is copied.
 ghost use Rattle.std.specs.Prelude.{◌≤◌, All, IfOk, OnOk, length};
-ghost use Rattle.rm_channel.specs.Jobs.{lists};
-ghost use Rattle.rm_channel.specs.Room.{AreThreads, CanWrite, IsThere};
-ghost use Rattle.rm_machine.specs.Events.{opening};
-ghost use Rattle.rm_machine.specs.Running.{CanFollow};
+ghost use Rattle.rm_channel.specs.{Jobs.{lists}, Room.{AreThreads, CanWrite, IsThere}};
+ghost use Rattle.rm_machine.specs.{Events.{opening}, Running.{CanFollow}, Sound.{IsSound}};
 ghost use Rattle.rm_step_backup.specs.Running.{HasGone, HasRunLive};
 ghost use Rattle.rm_live.specs.Parts.{IsNumbered, IsSound as IsSoundLive, parts_of};
-ghost use Rattle.rm_machine.specs.Sound.{IsSound};
 ghost use Rattle.rm_catalog_typed.specs.Changes.{EditsFollow};
 
 use rm_base::NoMemory;

@@ -1,13 +1,8 @@
 //! A backup set of datafiles, its record, its bytes and what is told of it.
 ghost use Rattle.std.specs.Prelude.{◌≡◌, ◌++◌, All, IfOk, OnOk, length, map};
-ghost use Rattle.rm_machine.specs.Backup.{part_of};
-ghost use Rattle.rm_machine.specs.MadeSets.{member_by, set_entry_for, set_of};
-ghost use Rattle.rm_machine.specs.State.{ledger};
-ghost use Rattle.rm_piece.specs.SetSpelling.{set_spelling, spelled};
-ghost use Rattle.rm_piece.specs.Sets.{IsSet};
-ghost use Rattle.rm_piece.specs.Valid.{IsPiece};
-ghost use Rattle.rm_step_backup.specs.Making.{made_by, member_of, told_member};
-ghost use Rattle.rm_step_backup.specs.declared.reading.Read.TheVariants.{OfSeveral};
+ghost use Rattle.rm_machine.specs.{Backup.{part_of}, MadeSets.{member_by, set_entry_for, set_of}, State.{ledger}};
+ghost use Rattle.rm_piece.specs.{SetSpelling.{set_spelling, spelled}, Sets.{IsSet}, Valid.{IsPiece}};
+ghost use Rattle.rm_step_backup.specs.{Making.{made_by, member_of, told_member}, declared.reading.Read.TheVariants.{OfSeveral}};
 ghost use Rattle.sha2.specs.Sha256.{sha256};
 
 use crate::making::{Entry, Made, Told};

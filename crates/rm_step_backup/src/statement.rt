@@ -1,18 +1,10 @@
 //! BACKUP of datafiles, while the database may write.
 ghost use Rattle.std.specs.Prelude.{◌≡◌, ◌≤◌, List, IfOk, None, OnOk, Option, false, map};
 ghost use Rattle.rm_base.specs.Store.{Held};
-ghost use Rattle.rm_step_backup.specs.Copying.{StartBelow};
-ghost use Rattle.rm_step_backup.specs.Running.{HasRunLive};
-ghost use Rattle.rm_channel.specs.Jobs.{whole};
-ghost use Rattle.rm_channel.specs.declared.jobs.CopyJob.{CopyJob};
-ghost use Rattle.rm_machine.specs.Asked.{span_of, writers_of};
-ghost use Rattle.rm_machine.specs.BackupOutcome.{begun};
-ghost use Rattle.rm_machine.specs.Hands.{Hands};
-ghost use Rattle.rm_machine.specs.Backup.{AreJobs, or_nothing, taken};
-ghost use Rattle.rm_machine.specs.BackupRefusal.{mark_count};
-ghost use Rattle.rm_machine.specs.Marks.{lacks_room};
-ghost use Rattle.rm_machine.specs.Sound.{IsSound};
-ghost use Rattle.rm_machine.specs.Step.{IsStatement, refusal_of};
+ghost use Rattle.rm_step_backup.specs.{Copying.{StartBelow}, Running.{HasRunLive}};
+ghost use Rattle.rm_channel.specs.{Jobs.{whole}, declared.jobs.CopyJob.{CopyJob}};
+ghost use Rattle.rm_machine.specs.{Asked.{span_of, writers_of}, BackupOutcome.{begun}, Hands.{Hands}, Backup.{AreJobs, or_nothing, taken}};
+ghost use Rattle.rm_machine.specs.{BackupRefusal.{mark_count}, Marks.{lacks_room}, Sound.{IsSound}, Step.{IsStatement, refusal_of}};
 ghost use Rattle.rm_machine.specs.Tracked.{switch_all};
 ghost use Rattle.rm_lang_statement.specs.declared.command.Command.TheVariants.{Backup};
 ghost use Rattle.rm_catalog_typed.specs.Changes.{EditsFollow};

@@ -1,53 +1,26 @@
 -- Whatever the store tells: a copy that changed can be recorded, since what it was made of has the fields of its records.
+use Rattle.std.specs.{Prelude.{IfSome, IsSomeAnd, option_and_then}, Option.{option_map}}
 use Rattle.std.proofs.Common.{◌≡◌, ◌≢◌, ◌==◌, ◌<◌, ◌≤◌, ◌-◌, ◌∙◌, inl, inr, ℕ, List, Option, Some, None, Bool, true, refl, ap, sym, subst, arith, length, slice_get, All, Contains}
-use Rattle.std.specs.Prelude.{IfSome, IsSomeAnd, option_and_then}
-use Rattle.std.specs.Option.{option_map}
-use Rattle.std.proofs.lemmas.Bool.{eqb-true}
-use Rattle.std.proofs.lemmas.List.Elements.{All-contains}
-use Rattle.std.proofs.lemmas.Option.{same_Some}
-use Rattle.rm_base.proofs.Keyed.{same_item}
-use Rattle.rm_base.proofs.Lists.{find_cases}
-use Rattle.rm_base.proofs.Sealing.{length-sealed}
-use Rattle.rm_backup.specs.declared.renewing.Renewed.{Renewed}
-use Rattle.rm_backup.specs.Level1s.{IsReached, MayBeMerged, next}
-use Rattle.rm_backup.specs.Records.{piece, pieces}
-use Rattle.rm_backup.specs.Renewed.{IsMerged, IsRenewed, TakesOver, copy_at}
+use Rattle.std.proofs.lemmas.{Bool.{eqb-true}, List.Elements.{All-contains}, Option.{same_Some}}
+use Rattle.rm_base.proofs.{Keyed.{same_item}, Lists.{find_cases}, Sealing.{length-sealed}}
+use Rattle.rm_backup.specs.{Level1s.{IsReached, MayBeMerged, next}, Records.{piece, pieces}}
+use Rattle.rm_backup.specs.{Renewed.{IsMerged, IsRenewed, TakesOver, copy_at}, declared.renewing.Renewed.{Renewed}}
 use Rattle.rm_backup.proofs.Chained.{reached_valid}
-use Rattle.rm_catalog.specs.declared.record.PieceEntry.{PieceEntry}
-use Rattle.rm_catalog.specs.declared.record.Record.{Record}
-use Rattle.rm_catalog.specs.declared.record.Record.TheVariants as kind
-use Rattle.rm_catalog.specs.declared.record.SetEntry.{SetEntry}
-use Rattle.rm_catalog.specs.Keys.{piece_in, place, place_of}
-use Rattle.rm_catalog.specs.Objects.{IsTag}
-use Rattle.rm_catalog.specs.Trees.{nodes}
-use Rattle.rm_evidence.specs.declared.evidence.Evidence.{Evidence}
-use Rattle.rm_evidence.specs.Known.{AreRecorded, FitsPiece, FitsTree, IsPartOf, IsRecorded}
-use Rattle.rm_history.specs.declared.world.Datafile.{Datafile}
-use Rattle.rm_history.specs.Tree.{IsThere, IsTree, end_of, owner}
-use Rattle.rm_history.proofs.Highs.{high-least}
-use Rattle.rm_catalog_typed.specs.LedgerFacts.{IsPieceEntry, IsSetEntry, IsSetPart}
-use Rattle.rm_merge.specs.Merge.{merged}
-use Rattle.rm_evidence.specs.Objects.{HasPieceFields, piece_entry}
-use Rattle.rm_evidence.proofs.DatabaseWorlds.{is-tree}
-use Rattle.rm_piece.specs.declared.piece.Piece.{Piece}
-use Rattle.rm_piece.specs.Spelling.{body_of}
-use Rattle.rm_piece.specs.Valid.{IsPiece}
-use Rattle.rm_piece.proofs.Bodies.{length-body}
-use Rattle.rm_piece.proofs.Fitting.{few_rows, fits as fits-piece}
-use Rattle.rm_catalog_typed.specs.TypedCatalog.{records_of}
-use Rattle.rm_catalog_typed.proofs.Lookups.{piece-id-within}
-use Rattle.rm_catalog_typed.proofs.Members.{piece-in, set-in}
-use Rattle.rm_catalog_typed.proofs.Valid.{typed_catalog-valid}
-use Rattle.rm_machine.specs.RecoverCopy.{AreRenewed}
-use Rattle.rm_machine.specs.Sound.{IsSound}
-use Rattle.rm_machine.specs.declared.state.State.{State}
-use Rattle.rm_machine.specs.State.{ledger, tree}
-use Rattle.rm_machine.proofs.Standing.{each-in}
-use Rattle.rm_step_copies.specs.Fit.{AreFit, CanRecord, IsFit, IsShort}
-use Rattle.rm_machine.proofs.Merges.{EndsIn, IsLast, KeepsOn, last-merge, reached-keeps}
-use Rattle.rm_machine.proofs.Renewing.{copy-kind, renewed-apart}
-use Rattle.rm_machine.proofs.Restoring.{entry-rows}
+use Rattle.rm_catalog.specs.{Keys.{piece_in, place, place_of}, Objects.{IsTag}, Trees.{nodes}, declared.record.PieceEntry.{PieceEntry}}
+use Rattle.rm_catalog.specs.declared.record.{Record.{Record, TheVariants as kind}, SetEntry.{SetEntry}}
+use Rattle.rm_evidence.specs.{Known.{AreRecorded, FitsPiece, FitsTree, IsPartOf, IsRecorded}, Objects.{HasPieceFields, piece_entry}}
+use Rattle.rm_evidence.{specs.declared.evidence.Evidence.{Evidence}, proofs.DatabaseWorlds.{is-tree}}
+use Rattle.rm_history.{specs.{Tree.{IsThere, IsTree, end_of, owner}, declared.world.Datafile.{Datafile}}, proofs.Highs.{high-least}}
+use Rattle.rm_catalog_typed.specs.{LedgerFacts.{IsPieceEntry, IsSetEntry, IsSetPart}, TypedCatalog.{records_of}}
+use Rattle.rm_catalog_typed.proofs.{Lookups.{piece-id-within}, Members.{piece-in, set-in}, Valid.{typed_catalog-valid}}
 use Rattle.rm_catalog_typed.proofs.Records.{database-told, pieces-told, tree-told}
+use Rattle.rm_merge.specs.Merge.{merged}
+use Rattle.rm_piece.{specs.{Spelling.{body_of}, Valid.{IsPiece}, declared.piece.Piece.{Piece}}, proofs.Bodies.{length-body}}
+use Rattle.rm_piece.proofs.Fitting.{few_rows, fits as fits-piece}
+use Rattle.rm_machine.specs.{RecoverCopy.{AreRenewed}, Sound.{IsSound}, State.{ledger, tree}, declared.state.State.{State}}
+use Rattle.rm_machine.proofs.{Standing.{each-in}, Merges.{EndsIn, IsLast, KeepsOn, last-merge, reached-keeps}}
+use Rattle.rm_machine.proofs.{Renewing.{copy-kind, renewed-apart}, Restoring.{entry-rows}}
+use Rattle.rm_step_copies.specs.Fit.{AreFit, CanRecord, IsFit, IsShort}
 
 -- a copy that is found is one of those at hand, with this id
 copy-held : (bases : List (ℕ × Piece)) (id : ℕ) (a : Piece) → copy_at bases id ≡ Some a → Contains bases (id, a)

@@ -1,14 +1,9 @@
 -- What fits the records of a state fits it.
-use Rattle.std.proofs.Common.{◌≡◌, ◌∙◌, List, ap, subst}
-use Rattle.std.specs.Prelude.{Result, Ok, Err, IfOk}
-use Rattle.rm_catalog.specs.declared.record.Record.{Record}
-use Rattle.rm_catalog.specs.Trees.{nodes}
-use Rattle.rm_evidence.specs.declared.evidence.Evidence.{Evidence}
-use Rattle.rm_evidence.specs.Known.{FitsTree}
-use Rattle.rm_machine.specs.declared.state.State.{State}
-use Rattle.rm_machine.specs.State.{tree}
-use Rattle.rm_catalog_typed.specs.TypedCatalog.{records_of}
-use Rattle.rm_catalog_typed.proofs.Records.{tree-told}
+use Rattle.std.{specs.Prelude.{Result, Ok, Err, IfOk}, proofs.Common.{◌≡◌, ◌∙◌, List, ap, subst}}
+use Rattle.rm_catalog.specs.{Trees.{nodes}, declared.record.Record.{Record}}
+use Rattle.rm_evidence.specs.{Known.{FitsTree}, declared.evidence.Evidence.{Evidence}}
+use Rattle.rm_machine.specs.{State.{tree}, declared.state.State.{State}}
+use Rattle.rm_catalog_typed.{specs.TypedCatalog.{records_of}, proofs.Records.{tree-told}}
 
 -- what follows of an answer follows where there is one
 pub ok-then : {A E : Type 0} {P Q : A → Type 0} (r : Result A E) → IfOk r P → ((x : A) → P x → Q x) → IfOk r Q

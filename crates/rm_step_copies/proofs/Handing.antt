@@ -1,36 +1,19 @@
 -- What RECOVER COPY hands out, and what refuses it by what is at hand.
+use Rattle.std.specs.{Prelude.{IfSome}, Option.{option_map_or}}
 use Rattle.std.proofs.Common.{◌≡◌, ◌∙◌, ◌++◌, ℕ, List, [], ◌∷◌, Option, Some, None, ap, sym, subst, filter, map, All}
-use Rattle.std.specs.Prelude.{IfSome}
-use Rattle.std.specs.Option.{option_map_or}
-use Rattle.std.proofs.lemmas.List.Elements.{All-append, All-cons, All-nil}
-use Rattle.std.proofs.lemmas.Option.{same_Some}
-use Rattle.rm_base.specs.Store.{Held}
-use Rattle.rm_base.specs.declared.kinds.Bad.{Bad}
-use Rattle.rm_base.specs.declared.refusal.Refusal.{Refusal}
+use Rattle.std.proofs.lemmas.{List.Elements.{All-append, All-cons, All-nil}, Option.{same_Some}}
+use Rattle.rm_base.specs.{Store.{Held}, declared.{kinds.Bad.{Bad}, refusal.Refusal.{Refusal}}}
 use Rattle.rm_backup.specs.declared.renewing.Renewed.{Renewed}
 use Rattle.rm_evidence.specs.declared.evidence.Evidence.{Evidence}
 use Rattle.rm_piece.specs.declared.piece.Piece.{Piece}
-use Rattle.rm_report.specs.Reply.{IsPlain}
-use Rattle.rm_report.specs.declared.line.Line.{Line}
-use Rattle.rm_report.specs.declared.line.Line.TheVariants.{Merged, StartsAbove, Stays}
-use Rattle.rm_lang_statement.specs.declared.command.Command.TheVariants.{RecoverCopy}
-use Rattle.rm_lang_statement.specs.declared.command.Until.{Until}
-use Rattle.rm_lang_statement.specs.declared.command.Until.TheVariants.{Scn, Sequence, Time}
-use Rattle.rm_machine.specs.Effect.{Outcome, refused}
-use Rattle.rm_machine.specs.Hands.{Hands, Refuses}
-use Rattle.rm_machine.specs.Recover.{recover_target}
+use Rattle.rm_report.specs.{Reply.{IsPlain}, declared.line.Line.{Line, TheVariants.{Merged, StartsAbove, Stays}}}
+use Rattle.rm_lang_statement.specs.declared.command.{Command.TheVariants.{RecoverCopy}, Until.{Until, TheVariants.{Scn, Sequence, Time}}}
+use Rattle.rm_machine.specs.{Effect.{Outcome, refused}, Hands.{Hands, Refuses}, Recover.{recover_target}}
 use Rattle.rm_machine.specs.RecoverCopy.{AreRenewed, RenewsTo, after_copies, after_copy, copies_gone, copies_lines, copies_put, renewed_line, renewed_lines, renewed_refusal, renewing, renews}
-use Rattle.rm_machine.specs.Recovery.{IsAtHand, skipped_lines}
-use Rattle.rm_machine.specs.Sound.{IsSound}
-use Rattle.rm_machine.specs.Step.{IsDone}
-use Rattle.rm_machine.specs.Until.{nowhere_refusal, or_else, refusal_at, target_of, thread_refusal, until_refusal}
-use Rattle.rm_machine.specs.declared.handed.Handed.{Handed}
-use Rattle.rm_machine.specs.declared.state.State.{State}
-use Rattle.rm_machine.specs.State.{ledger}
-use Rattle.rm_machine.proofs.Handing.{hands-by}
-use Rattle.rm_machine.proofs.Untils.{second-none}
-use Rattle.rm_step_copies.specs.Skipped.{is_of_copies}
-use Rattle.rm_step_copies.proofs.Skipped.{skipped-of}
+use Rattle.rm_machine.specs.{Recovery.{IsAtHand, skipped_lines}, Sound.{IsSound}, Step.{IsDone}}
+use Rattle.rm_machine.specs.{Until.{nowhere_refusal, or_else, refusal_at, target_of, thread_refusal, until_refusal}, State.{ledger}}
+use Rattle.rm_machine.{specs.declared.{handed.Handed.{Handed}, state.State.{State}}, proofs.{Handing.{hands-by}, Untils.{second-none}}}
+use Rattle.rm_step_copies.{specs.Skipped.{is_of_copies}, proofs.Skipped.{skipped-of}}
 
 -- an UNTIL that leads nowhere is refused
 nowhere-by : (s : State) (i : ℕ) (until : Option Until) → target_of s i until ≡ None → ¬ (nowhere_refusal s until ≡ None)

@@ -1,23 +1,14 @@
 -- Of the skipped records those of a copy or a level 1 with the tag.
-use Rattle.std.proofs.Common.{◌≡◌, ◌≢◌, ◌<◌, ◌∙◌, ◌==◌, inl, inr, ℕ, List, [], Some, true, false, refl, ap, sym, subst, eq-eqb, filter, Contains}
 use Rattle.std.specs.Option.{option_map_or}
-use Rattle.std.proofs.lemmas.Bool.{eqb-true}
-use Rattle.std.proofs.lemmas.List.Kept.{AllPairs-filter}
-use Rattle.rm_base.specs.Store.{Held}
-use Rattle.rm_base.specs.declared.kinds.Bad.{Bad}
-use Rattle.rm_base.proofs.Keyed.{same_item}
+use Rattle.std.proofs.Common.{◌≡◌, ◌≢◌, ◌<◌, ◌∙◌, ◌==◌, inl, inr, ℕ, List, [], Some, true, false, refl, ap, sym, subst, eq-eqb, filter, Contains}
+use Rattle.std.proofs.lemmas.{Bool.{eqb-true}, List.Kept.{AllPairs-filter}}
+use Rattle.rm_base.{specs.{Store.{Held}, declared.kinds.Bad.{Bad}}, proofs.Keyed.{same_item}}
 use Rattle.rm_base.proofs.Lists.{filter_from, filter_to, find_cases, find_none, map_from, map_to}
-use Rattle.rm_catalog.specs.declared.record.PieceEntry.{PieceEntry}
-use Rattle.rm_catalog.specs.declared.record.Record.TheVariants.{Log, Piece, Set}
-use Rattle.rm_evidence.specs.Available.{IsSkipped, a_log, a_piece, a_set}
-use Rattle.rm_evidence.specs.Gathered.{Lists}
-use Rattle.rm_machine.specs.RecoverCopy.{for_copies, is_for_copies}
-use Rattle.rm_machine.specs.Sound.{IsSound}
-use Rattle.rm_machine.specs.Upkeep.{piece_at}
+use Rattle.rm_catalog.specs.declared.record.{PieceEntry.{PieceEntry}, Record.TheVariants.{Log, Piece, Set}}
+use Rattle.rm_evidence.specs.{Available.{IsSkipped, a_log, a_piece, a_set}, Gathered.{Lists}}
+use Rattle.rm_machine.specs.{RecoverCopy.{for_copies, is_for_copies}, Sound.{IsSound}, Upkeep.{piece_at}, State.{ledger}}
 use Rattle.rm_machine.specs.declared.state.State.{State}
-use Rattle.rm_machine.specs.State.{ledger}
-use Rattle.rm_catalog_typed.specs.TypedCatalog.{records_of}
-use Rattle.rm_catalog_typed.proofs.Members.{log-in, piece-has, piece-in, set-in}
+use Rattle.rm_catalog_typed.{specs.TypedCatalog.{records_of}, proofs.Members.{log-in, piece-has, piece-in, set-in}}
 use Rattle.rm_step_copies.specs.Skipped.{is_of_copies}
 
 module _ (s : State) (tag : List ℕ) (held : Held) (sound : IsSound s) where

@@ -1,20 +1,13 @@
 -- The datafiles are walked ascending: what became of the copies of those before the next.
-use Rattle.std.proofs.Common.{◌≡◌, ◌<◌, ◌≤◌, ◌+◌, ◌++◌, ◌∷◌, [], inl, inr, ℕ, List, Option, Some, None, true, false, refl, sym, subst, arith, is_some, if◌then◌else◌, length, length-append, map, Contains}
 use Rattle.std.specs.Option.{option_and_then}
-use Rattle.std.proofs.lemmas.List.{map-append}
-use Rattle.std.proofs.lemmas.List.Elements.{Contains-push_cases}
-use Rattle.std.proofs.lemmas.Option.{slice_get_within}
-use Rattle.rm_apply.specs.Files.{AreExactly}
-use Rattle.rm_apply.proofs.Numbers.{Below, all_numbers, one_more, one_past}
-use Rattle.rm_backup.specs.declared.renewing.Renewed.{Renewed}
-use Rattle.rm_backup.specs.Renewed.{IsRenewed}
+use Rattle.std.proofs.Common.{◌≡◌, ◌<◌, ◌≤◌, ◌+◌, ◌++◌, ◌∷◌, [], inl, inr, ℕ, List, Option, Some, None, true, false, refl, sym, subst, arith, is_some, if◌then◌else◌, length, length-append, map, Contains}
+use Rattle.std.proofs.lemmas.{List.{map-append, Elements.{Contains-push_cases}}, Option.{slice_get_within}}
+use Rattle.rm_apply.{specs.Files.{AreExactly}, proofs.Numbers.{Below, all_numbers, one_more, one_past}}
+use Rattle.rm_backup.specs.{Renewed.{IsRenewed}, declared.renewing.Renewed.{Renewed}}
 use Rattle.rm_base.proofs.Members.{none-in}
 use Rattle.rm_evidence.specs.declared.evidence.Evidence.{Evidence}
-use Rattle.rm_history.specs.declared.world.Datafile.{Datafile}
-use Rattle.rm_history.specs.World.{exists, file_of}
-use Rattle.rm_machine.specs.RecoverCopy.{AreRenewed, HasTaken}
-use Rattle.rm_machine.specs.declared.state.State.{State}
-use Rattle.rm_machine.specs.State.{current_of, ledger, now_of, world}
+use Rattle.rm_history.specs.{World.{exists, file_of}, declared.world.Datafile.{Datafile}}
+use Rattle.rm_machine.specs.{RecoverCopy.{AreRenewed, HasTaken}, State.{current_of, ledger, now_of, world}, declared.state.State.{State}}
 use Rattle.rm_machine.proofs.Numbers.{file-place}
 use Rattle.rm_catalog_typed.specs.TypedCatalog.{records_of}
 

@@ -1,25 +1,18 @@
 -- RECOVER COPY under way: some copies are renewed, and the rest lead on from there.
-use Rattle.std.proofs.Common.{◌≡◌, ◌≤◌, ◌<◌, ◌+◌, ◌∙◌, ◌++◌, ℕ, suc, List, ◌∷◌, Option, None, Some, refl, ap, sym, subst, arith, append_assoc, drop-cons, drop, get_or, length, All}
 use Rattle.std.specs.Prelude.{IfSome}
+use Rattle.std.proofs.Common.{◌≡◌, ◌≤◌, ◌<◌, ◌+◌, ◌∙◌, ◌++◌, ℕ, suc, List, ◌∷◌, Option, None, Some, refl, ap, sym, subst, arith, append_assoc, drop-cons, drop, get_or, length, All}
 use Rattle.std.proofs.lemmas.List.Elements.{All-contains, All-head, All-tail}
 use Rattle.rm_backup.specs.declared.renewing.Renewed.{Renewed}
 use Rattle.rm_catalog.specs.declared.record.Edit.{Edit}
 use Rattle.rm_commit.specs.declared.commit.Object.{Object}
-use Rattle.rm_piece.specs.declared.piece.Piece.{Piece}
-use Rattle.rm_piece.specs.Valid.{IsPiece}
+use Rattle.rm_piece.specs.{Valid.{IsPiece}, declared.piece.Piece.{Piece}}
 use Rattle.rm_report.specs.declared.line.Line.{Line}
-use Rattle.rm_catalog_typed.specs.Changes.{EditsFollow}
-use Rattle.rm_catalog_typed.specs.Fitting.{HasId}
-use Rattle.rm_catalog_typed.proofs.Changed.{follows-then}
-use Rattle.rm_catalog_typed.proofs.Lookups.{piece-id-within}
+use Rattle.rm_catalog_typed.{specs.{Changes.{EditsFollow}, Fitting.{HasId}}, proofs.{Changed.{follows-then}, Lookups.{piece-id-within}}}
 use Rattle.rm_machine.specs.RecoverCopy.{after_copies, after_copy, changed, copies_gone, copies_lines, copies_put, renewed_lines, renewed_name, renewed_object, renewed_refusal}
-use Rattle.rm_machine.specs.Sound.{IsSound}
-use Rattle.rm_machine.specs.declared.handed.Handed.{Handed}
-use Rattle.rm_machine.specs.declared.state.State.{State}
-use Rattle.rm_machine.specs.State.{ledger}
+use Rattle.rm_machine.specs.{Sound.{IsSound}, State.{ledger}, declared.{handed.Handed.{Handed}, state.State.{State}}}
 use Rattle.rm_machine.proofs.Standing.{each-in}
-use Rattle.rm_step_copies.specs.Fit.{AreFit, CanPut, CanRecord, IsFit}
 use Rattle.rm_machine.proofs.Renewing.{CanRenewAll, CanRenewTo, drawn, first-can, first-room, fits as renew-fits, ids-left, rest-can, sound-to}
+use Rattle.rm_step_copies.specs.Fit.{AreFit, CanPut, CanRecord, IsFit}
 
 -- those from place k on
 rest-at : (xs : List (ℕ × Renewed)) (k : ℕ) (one : ℕ × Renewed) → k < length xs → one ≡ get_or xs k one → drop k xs ≡ one ∷ drop (k + 1) xs

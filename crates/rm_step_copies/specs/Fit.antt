@@ -1,15 +1,10 @@
 -- What copies need so that records can take the place of their own.
 use Rattle.std.specs.Prelude.{ℕ, ◌≢◌, ◌≤◌, Bool, true, IfSome, List, All, AllPairs, length}
 use Rattle.rm_backup.specs.declared.renewing.Renewed.{Renewed}
-use Rattle.rm_catalog_typed.specs.LedgerFacts.{IsPieceEntry}
-use Rattle.rm_piece.specs.declared.piece.Piece.{Piece}
-use Rattle.rm_piece.specs.Valid.{IsPiece}
-use Rattle.rm_catalog_typed.specs.Changes.{without_piece}
-use Rattle.rm_catalog_typed.specs.Fitting.{FitsNewPiece, HasId}
+use Rattle.rm_catalog_typed.specs.{LedgerFacts.{IsPieceEntry}, Changes.{without_piece}, Fitting.{FitsNewPiece, HasId}}
+use Rattle.rm_piece.specs.{Valid.{IsPiece}, declared.piece.Piece.{Piece}}
 use Rattle.rm_evidence.specs.Objects.{piece_entry}
-use Rattle.rm_machine.specs.RecoverCopy.{renewed_entry}
-use Rattle.rm_machine.specs.declared.state.State.{State}
-use Rattle.rm_machine.specs.State.{ledger, tree}
+use Rattle.rm_machine.specs.{RecoverCopy.{renewed_entry}, State.{ledger, tree}, declared.state.State.{State}}
 
 -- the piece can be recorded as an image copy with the tag
 pub record CanRecord (s : State) (tag : List ℕ) (a : Piece) : Type 0 where

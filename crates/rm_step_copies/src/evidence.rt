@@ -2,9 +2,7 @@
 ghost use Rattle.std.specs.Prelude.{◌≡◌, ◌≤◌, All, IfOk, IfSome, IsErrOf};
 ghost use Rattle.rm_base.specs.Outside.{Rose};
 ghost use Rattle.rm_evidence.specs.Known.{AreRecorded, FitsTree, IsRecorded};
-ghost use Rattle.rm_machine.specs.Recovery.{IsAtHand, in_place};
-ghost use Rattle.rm_machine.specs.Sound.{IsSound};
-ghost use Rattle.rm_machine.specs.State.{tree};
+ghost use Rattle.rm_machine.specs.{Recovery.{IsAtHand, in_place}, Sound.{IsSound}, State.{tree}};
 ghost use Rattle.rm_catalog_typed.specs.TypedCatalog.{records_of};
 
 use rm_base::Store;

@@ -1,7 +1,6 @@
 //! Why changed copies can't be put.
 ghost use Rattle.std.specs.Prelude.{◌≡◌, ◌≤◌, All, length, sum_by};
-ghost use Rattle.rm_machine.specs.RecoverCopy.{changed, copy_bytes, renewed_refusal};
-ghost use Rattle.rm_machine.specs.Sound.{IsSound};
+ghost use Rattle.rm_machine.specs.{RecoverCopy.{changed, copy_bytes, renewed_refusal}, Sound.{IsSound}};
 ghost use Rattle.rm_step_copies.specs.Fit.{IsShort};
 
 use rm_backup::Renewed;

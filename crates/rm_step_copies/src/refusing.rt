@@ -1,9 +1,7 @@
 //! Why RECOVER COPY is refused by the state alone.
-ghost use Rattle.std.specs.Prelude.{◌≡◌, IfOk};
-ghost use Rattle.std.specs.List.{list_any};
+ghost use Rattle.std.specs.{Prelude.{◌≡◌, IfOk}, List.{list_any}};
 ghost use Rattle.rm_machine.specs.RecoverCopy.{copy_refusal_at, is_copy_with, recover_copy_refusal, tag_refusal, targetless_refusal};
-ghost use Rattle.rm_machine.specs.Sound.{IsSound};
-ghost use Rattle.rm_machine.specs.State.{ledger};
+ghost use Rattle.rm_machine.specs.{Sound.{IsSound}, State.{ledger}};
 
 use rm_base::{NoMemory, Refusal, Scn, Status, Text, Unknown};
 use rm_catalog::PieceEntry;

@@ -2,9 +2,7 @@
 ghost use Rattle.std.specs.Prelude.{◌≡◌, ◌≤◌, IfNone, IfOk, IfSome, length};
 ghost use Rattle.rm_backup.specs.Renewed.{IsRenewed};
 ghost use Rattle.rm_evidence.specs.Known.{FitsTree};
-ghost use Rattle.rm_machine.specs.RecoverCopy.{AreRenewed, HasTaken};
-ghost use Rattle.rm_machine.specs.Sound.{IsSound};
-ghost use Rattle.rm_machine.specs.State.{tree};
+ghost use Rattle.rm_machine.specs.{RecoverCopy.{AreRenewed, HasTaken}, Sound.{IsSound}, State.{tree}};
 ghost use Rattle.rm_catalog_typed.specs.TypedCatalog.{records_of};
 
 use rm_backup::{Renewed, recover_copy};

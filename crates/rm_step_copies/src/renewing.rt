@@ -1,15 +1,11 @@
 //! A changed copy, its record, its object and its lines.
 ghost use Rattle.std.specs.Prelude.{◌≡◌, ◌≤◌, ◌∷◌, ◌++◌, [], IfOk, IfSome, None, OnOk, map, true};
 ghost use Rattle.rm_machine.specs.RecoverCopy.{after_copies, after_copy, copies_gone, copies_lines, copies_put, is_kept, renewed_entry, renewed_line, renewed_lines, renewed_name, renewed_object, renewed_refusal};
-ghost use Rattle.rm_machine.specs.Sound.{IsSound};
-ghost use Rattle.rm_machine.specs.State.{ledger};
-ghost use Rattle.rm_evidence.specs.Names.{piece_name};
-ghost use Rattle.rm_evidence.specs.Objects.{piece_entry};
-ghost use Rattle.rm_piece.specs.Spelling.{spelling};
-ghost use Rattle.rm_piece.specs.Valid.{IsPiece};
+ghost use Rattle.rm_machine.specs.{Sound.{IsSound}, State.{ledger}};
+ghost use Rattle.rm_evidence.specs.{Names.{piece_name}, Objects.{piece_entry}};
+ghost use Rattle.rm_piece.specs.{Spelling.{spelling}, Valid.{IsPiece}};
 ghost use Rattle.rm_report.specs.declared.line.Line.TheVariants.{StartsAbove};
-ghost use Rattle.rm_catalog_typed.specs.Changes.{EditsFollow, with_new_piece, without_piece};
-ghost use Rattle.rm_catalog_typed.specs.Fitting.{FitsNewPiece};
+ghost use Rattle.rm_catalog_typed.specs.{Changes.{EditsFollow, with_new_piece, without_piece}, Fitting.{FitsNewPiece}};
 ghost use Rattle.rm_step_copies.specs.Fit.{AreFit, CanPut};
 ghost use Rattle.sha2.specs.Sha256.{sha256};
 

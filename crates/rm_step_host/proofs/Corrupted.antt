@@ -1,15 +1,9 @@
 -- The row of the block that HOST CORRUPT names, where it was not refused.
-use Rattle.std.proofs.Common.{◌≡◌, nat_le, ℕ, Some, None, true, cond, is_none}
-use Rattle.std.specs.Option.{option_map_or}
-use Rattle.rm_base.specs.declared.refusal.Refusal.TheVariants.{Rm04, Rm05, Rm09}
-use Rattle.rm_base.specs.declared.refusal.Absent.TheVariants.{File, Block}
+use Rattle.std.{specs.Option.{option_map_or}, proofs.Common.{◌≡◌, nat_le, ℕ, Some, None, true, cond, is_none}}
+use Rattle.rm_base.specs.declared.refusal.{Refusal.TheVariants.{Rm04, Rm05, Rm09}, Absent.TheVariants.{File, Block}}
 use Rattle.rm_base.proofs.Conditions.{only-where, unless}
-use Rattle.rm_machine.specs.Corrupt.{corrupt_block_refusal, corrupt_refusal}
-use Rattle.rm_machine.specs.Marks.{ids_refusal}
-use Rattle.rm_machine.specs.Sound.{IsSound}
-use Rattle.rm_machine.specs.declared.state.State.{State}
-use Rattle.rm_machine.specs.State.{on_path, placed}
-use Rattle.rm_machine.proofs.PlacedRows.{HasRow, has-row, there-by}
+use Rattle.rm_machine.specs.{Corrupt.{corrupt_block_refusal, corrupt_refusal}, Marks.{ids_refusal}, Sound.{IsSound}}
+use Rattle.rm_machine.{specs.{State.{on_path, placed}, declared.state.State.{State}}, proofs.PlacedRows.{HasRow, has-row, there-by}}
 
 pub row-there : (s : State) (f b : ℕ) → IsSound s → corrupt_refusal s f b ≡ None → HasRow s f b
 row-there s f b sound is =

@@ -1,16 +1,11 @@
 -- What the mishaps of objects hand out, by what the store has under the names.
 use Rattle.std.proofs.Common.{◌≡◌, ◌<◌, ◌∙◌, ℕ, List, [], ◌∷◌, Option, Some, None, false, nat_le, cond, is_none, is_some, IfSome, refl, ap, sym, subst, arith, length, take}
 use Rattle.std.proofs.lemmas.Bool.Decides.{nat_tests}
-use Rattle.rm_base.specs.Store.{Held}
-use Rattle.rm_base.specs.declared.refusal.Refusal.TheVariants.{Rm12}
-use Rattle.rm_base.specs.declared.refusal.Unknown.TheVariants.{Byte}
+use Rattle.rm_base.specs.{Store.{Held}, declared.refusal.{Refusal.TheVariants.{Rm12}, Unknown.TheVariants.{Byte}}}
 use Rattle.rm_report.specs.declared.line.Line.TheVariants as line
 use Rattle.rm_lang_statement.specs.declared.command.Command.TheVariants.{Cut, Damage, Remove, Rename}
 use Rattle.rm_machine.specs.Mishaps.{cut_by, damage_by, damaged, removal, remove_by, rename_by, renaming, replacement}
-use Rattle.rm_machine.specs.Effect.{done, refused}
-use Rattle.rm_machine.specs.Hands.{Hands}
-use Rattle.rm_machine.specs.declared.handed.Handed.{Handed}
-use Rattle.rm_machine.specs.declared.state.State.{State}
+use Rattle.rm_machine.specs.{Effect.{done, refused}, Hands.{Hands}, declared.{handed.Handed.{Handed}, state.State.{State}}}
 use Rattle.rm_machine.proofs.Handing.{hands-by}
 
 -- what a store that tells has under a name is what it gave

@@ -1,13 +1,9 @@
 //! HOST CORRUPT DATAFILE f BLOCK b
-ghost use Rattle.std.specs.Prelude.{◌≡◌, ◌-◌, ◌<◌, IfOk, None, OnErr, OnOk, Option, length};
-ghost use Rattle.std.specs.Option.{option_map};
+ghost use Rattle.std.specs.{Prelude.{◌≡◌, ◌-◌, ◌<◌, IfOk, None, OnErr, OnOk, Option, length}, Option.{option_map}};
 ghost use Rattle.rm_base.specs.Store.{Held};
 ghost use Rattle.rm_blocks.specs.File.{put};
 ghost use Rattle.rm_lang_statement.specs.declared.command.Command.TheVariants.{Corrupt};
-ghost use Rattle.rm_machine.specs.Corrupt.{corrupt_refusal, corrupted, flipped};
-ghost use Rattle.rm_machine.specs.Events.{with_placed_row};
-ghost use Rattle.rm_machine.specs.Hands.{Hands};
-ghost use Rattle.rm_machine.specs.Sound.{IsSound};
+ghost use Rattle.rm_machine.specs.{Corrupt.{corrupt_refusal, corrupted, flipped}, Events.{with_placed_row}, Hands.{Hands}, Sound.{IsSound}};
 
 use rm_base::{Absent, Block, BlockId, BlockNo, FileNo, NoMemory, Refusal, Row, Seq};
 use rm_blocks::DataFile;

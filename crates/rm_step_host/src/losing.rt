@@ -2,9 +2,7 @@
 ghost use Rattle.std.specs.Prelude.{◌≡◌, ◌-◌, ◌<◌, ◌==◌, IfOk, None, OnErr, OnOk, Option, filter, length, not};
 ghost use Rattle.rm_base.specs.Store.{Held};
 ghost use Rattle.rm_lang_statement.specs.declared.command.Command.TheVariants.{LoseDatafile, LoseLog};
-ghost use Rattle.rm_machine.specs.Hands.{Hands};
-ghost use Rattle.rm_machine.specs.LoseDatafile.{lose_refusal, without_file};
-ghost use Rattle.rm_machine.specs.LoseLog.{lose_log_refusal, without_log};
+ghost use Rattle.rm_machine.specs.{Hands.{Hands}, LoseDatafile.{lose_refusal, without_file}, LoseLog.{lose_log_refusal, without_log}};
 ghost use Rattle.rm_machine.specs.Sound.{IsSound};
 ghost use Rattle.rm_redo.specs.Online.{IsThread};
 

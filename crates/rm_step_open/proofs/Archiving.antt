@@ -7,17 +7,11 @@ use Rattle.rm_commit.specs.declared.commit.Object.{Object}
 use Rattle.rm_lang_statement.specs.declared.command.Command.TheVariants.{ArchiveLogCurrent, SwitchLogfile}
 use Rattle.rm_redo.specs.Online.{IsThread}
 use Rattle.rm_report.specs.declared.line.Line.{Line}
-use Rattle.rm_catalog_typed.specs.Changes.{EditsFollow}
-use Rattle.rm_catalog_typed.proofs.Changed.{follows-then}
+use Rattle.rm_catalog_typed.{specs.Changes.{EditsFollow}, proofs.Changed.{follows-then}}
 use Rattle.rm_machine.specs.Archive.{after_all, after_thread, after_threads, archiving, archiving_refusal, lines_from, puts_by, puts_from, thread_lines}
-use Rattle.rm_machine.specs.Effect.{done, no_effect}
-use Rattle.rm_machine.specs.Hands.{Hands}
-use Rattle.rm_machine.specs.declared.handed.Handed.{Handed}
-use Rattle.rm_machine.specs.declared.state.State.{State}
-use Rattle.rm_machine.specs.State.{online}
-use Rattle.rm_machine.specs.Sound.{IsSound}
-use Rattle.rm_machine.specs.SwitchLogfile.{archived, is_due, made_lines, none_lines, with_archived}
-use Rattle.rm_machine.proofs.Archives.{HasRoom, next-room, room-accepted, sound-thread}
+use Rattle.rm_machine.specs.{Effect.{done, no_effect}, Hands.{Hands}, State.{online}, Sound.{IsSound}}
+use Rattle.rm_machine.specs.{SwitchLogfile.{archived, is_due, made_lines, none_lines, with_archived}, declared.handed.Handed.{Handed}}
+use Rattle.rm_machine.{specs.declared.state.State.{State}, proofs.Archives.{HasRoom, next-room, room-accepted, sound-thread}}
 
 -- what archiving has before it, or has reached
 pub record Reached : Type 0 where

@@ -1,29 +1,18 @@
 -- DISABLE THREAD: what its steps want, and the state that they leave.
 use Rattle.std.proofs.Common.{◌≡◌, ◌∙◌, ◌+◌, ◌<◌, ◌≤◌, ◌&&◌, not, nat_lt, ℕ, None, true, false, ap, sym, arith, length, All}
-use Rattle.std.proofs.lemmas.Bool.{and_right, le-ltb}
-use Rattle.std.proofs.lemmas.List.Elements.{All-weaker}
+use Rattle.std.proofs.lemmas.{Bool.{and_right, le-ltb}, List.Elements.{All-weaker}}
 use Rattle.rm_base.specs.Numbers.{last_scn}
 use Rattle.rm_history.specs.Tree.{end_of}
-use Rattle.rm_catalog_typed.specs.Changes.{with_switch}
-use Rattle.rm_catalog_typed.specs.Ledger.{ledger_records}
-use Rattle.rm_catalog_typed.specs.TypedCatalog.{TypedCatalog}
+use Rattle.rm_catalog_typed.specs.{Changes.{with_switch}, Ledger.{ledger_records}, TypedCatalog.{TypedCatalog}}
 use Rattle.rm_catalog_typed.specs.declared.thread_switch.ThreadSwitch.{ThreadSwitch}
-use Rattle.rm_redo.specs.LogFormat.{IsLogRecord}
-use Rattle.rm_redo.specs.Logs.{Logs}
+use Rattle.rm_redo.specs.{LogFormat.{IsLogRecord}, Logs.{Logs}}
 use Rattle.rm_redo.specs.Online.{IsLost, IsThread, first_of, sequence_of, thread_records, with_disabled}
-use Rattle.rm_machine.specs.Archive.{after_thread}
-use Rattle.rm_machine.specs.DisableThread.{disable_refusal, switch_off, with_thread_off}
-use Rattle.rm_machine.specs.Marks.{lacks_room, marks_before, one_further}
-use Rattle.rm_machine.specs.Sound.{IsSound}
-use Rattle.rm_machine.specs.SwitchLogfile.{is_due}
-use Rattle.rm_machine.specs.declared.state.Instance.{Instance}
-use Rattle.rm_machine.specs.declared.state.State.{State}
-use Rattle.rm_machine.specs.State.{is_lost, is_online, ledger, now_of, online, redo_end, tree}
-use Rattle.rm_machine.proofs.Archives.{thread-either}
+use Rattle.rm_machine.specs.{Archive.{after_thread}, DisableThread.{disable_refusal, switch_off, with_thread_off}}
+use Rattle.rm_machine.specs.{Marks.{lacks_room, marks_before, one_further}, Sound.{IsSound}, SwitchLogfile.{is_due}}
+use Rattle.rm_machine.specs.{State.{is_lost, is_online, ledger, now_of, online, redo_end, tree}, declared.state.Instance.{Instance}}
+use Rattle.rm_machine.{specs.declared.state.State.{State}, proofs.Archives.{thread-either}}
 use Rattle.rm_machine.proofs.Disabling.{IsAccepted, accepted, after-due, can-archive, can-disable, now-after, runs-after}
-use Rattle.rm_machine.proofs.Further.{redo-now}
-use Rattle.rm_machine.proofs.Switching.{begun-after, not-above}
-use Rattle.rm_machine.proofs.Threads.{thread-in}
+use Rattle.rm_machine.proofs.{Further.{redo-now}, Switching.{begun-after, not-above}, Threads.{thread-in}}
 
 -- the log of the thread can be closed there, and nothing is left to archive
 pub record CanClose (logs : Logs) (t scn : ℕ) : Type 0 where

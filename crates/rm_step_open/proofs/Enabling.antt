@@ -1,18 +1,10 @@
 -- ENABLE THREAD: what its steps want, and the state that they leave.
 use Rattle.std.proofs.Common.{◌≡◌, ◌∙◌, ◌≤◌, ℕ, None, true, false, sym, arith}
 use Rattle.rm_base.specs.Numbers.{last_scn}
-use Rattle.rm_catalog_typed.specs.Changes.{with_switch}
-use Rattle.rm_catalog_typed.specs.TypedCatalog.{TypedCatalog}
-use Rattle.rm_catalog_typed.specs.declared.thread_switch.ThreadSwitch.{ThreadSwitch}
-use Rattle.rm_redo.specs.Logs.{Logs}
-use Rattle.rm_redo.specs.Online.{IsThread, with_enabled}
-use Rattle.rm_machine.specs.EnableThread.{enable_refusal, switch_on, with_thread_on}
-use Rattle.rm_machine.specs.Marks.{one_further}
-use Rattle.rm_machine.specs.Sound.{IsSound}
-use Rattle.rm_machine.specs.declared.state.Instance.{Instance}
-use Rattle.rm_machine.specs.declared.state.State.{State}
-use Rattle.rm_machine.specs.State.{current_of}
-use Rattle.rm_machine.proofs.Enabling.{can-enable}
+use Rattle.rm_catalog_typed.specs.{Changes.{with_switch}, TypedCatalog.{TypedCatalog}, declared.thread_switch.ThreadSwitch.{ThreadSwitch}}
+use Rattle.rm_redo.specs.{Logs.{Logs}, Online.{IsThread, with_enabled}}
+use Rattle.rm_machine.specs.{EnableThread.{enable_refusal, switch_on, with_thread_on}, Marks.{one_further}, Sound.{IsSound}}
+use Rattle.rm_machine.{specs.{State.{current_of}, declared.state.{Instance.{Instance}, State.{State}}}, proofs.Enabling.{can-enable}}
 
 -- an empty log of the thread can begin where the switch says
 pub record CanBegin (logs : Logs) (t : ℕ) (x : ThreadSwitch) : Type 0 where

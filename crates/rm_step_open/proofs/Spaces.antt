@@ -1,20 +1,14 @@
 -- Where there is space for a log more.
 use Rattle.std.proofs.Common.{◌≡◌, ◌∙◌, ◌<◌, ◌+◌, ◌&&◌, nat_lt, inl, inr, ℕ, suc, Option, None, Some, true, false, cond, arith, length}
 use Rattle.std.proofs.lemmas.Bool.{and_left, and_right, cond-false, le-ltb}
-use Rattle.rm_base.specs.declared.refusal.Refusal.{Refusal}
-use Rattle.rm_base.specs.declared.refusal.Refusal.TheVariants.{Rm11}
-use Rattle.rm_base.specs.declared.refusal.Limit.TheVariants.{Records, Bytes, ObjectIds, Sequences}
+use Rattle.rm_base.specs.declared.refusal.{Refusal.{Refusal, TheVariants.{Rm11}}, Limit.TheVariants.{Records, Bytes, ObjectIds, Sequences}}
 use Rattle.rm_base.proofs.Conditions.{unless}
 use Rattle.rm_catalog_typed.specs.Ledger.{ledger_records}
 use Rattle.rm_redo.specs.Online.{IsThread}
 use Rattle.rm_machine.specs.Archive.{archiving_refusal, bytes_from, due_from, is_last_sequence}
-use Rattle.rm_machine.specs.Marks.{lacks_bytes, lacks_ids, lacks_room}
-use Rattle.rm_machine.specs.declared.state.State.{State}
-use Rattle.rm_machine.specs.State.{ledger}
-use Rattle.rm_machine.specs.SwitchLogfile.{is_due}
-use Rattle.rm_machine.proofs.Archives.{HasRoom, can-thread, room-one}
-use Rattle.rm_machine.proofs.Switching.{CanArchive, due-parts}
-use Rattle.rm_machine.proofs.Further.{roomy-either}
+use Rattle.rm_machine.specs.{Marks.{lacks_bytes, lacks_ids, lacks_room}, State.{ledger}, SwitchLogfile.{is_due}}
+use Rattle.rm_machine.{specs.declared.state.State.{State}, proofs.Archives.{HasRoom, can-thread, room-one}}
+use Rattle.rm_machine.proofs.{Switching.{CanArchive, due-parts}, Further.{roomy-either}}
 use Rattle.rm_step_open.specs.Space.{HasSpace}
 
 pub space-can : (s : State) (t : ℕ) → CanArchive s t → HasSpace s t

@@ -1,14 +1,10 @@
 -- What threads have to archive: the archiving of those before changes nothing of it.
-use Rattle.std.proofs.Common.{◌≡◌, ◌∙◌, ◌+◌, ◌-◌, ◌*◌, ◌<◌, ◌≤◌, ◌&&◌, not, nat_le, nat_lt, ℕ, zero, suc, Bool, true, false, cond, refl, ap, sym, arith, length, slice_get, []}
 use Rattle.std.specs.Option.{option_map_or}
+use Rattle.std.proofs.Common.{◌≡◌, ◌∙◌, ◌+◌, ◌-◌, ◌*◌, ◌<◌, ◌≤◌, ◌&&◌, not, nat_le, nat_lt, ℕ, zero, suc, Bool, true, false, cond, refl, ap, sym, arith, length, slice_get, []}
 use Rattle.rm_history.specs.Tree.{end_of}
-use Rattle.rm_redo.specs.Online.{first_of, sequence_of}
-use Rattle.rm_redo.proofs.Logs.{around-switched, other-switched}
-use Rattle.rm_machine.specs.Archive.{after_thread, bytes_from, due_from, is_last_sequence}
-use Rattle.rm_machine.specs.DisableThread.{lacks_sequence}
-use Rattle.rm_machine.specs.declared.state.State.{State}
-use Rattle.rm_machine.specs.State.{is_online, redo_end}
-use Rattle.rm_machine.specs.SwitchLogfile.{is_due, log_bytes, with_archived}
+use Rattle.rm_redo.{specs.Online.{first_of, sequence_of}, proofs.Logs.{around-switched, other-switched}}
+use Rattle.rm_machine.specs.{Archive.{after_thread, bytes_from, due_from, is_last_sequence}, DisableThread.{lacks_sequence}}
+use Rattle.rm_machine.specs.{State.{is_online, redo_end}, SwitchLogfile.{is_due, log_bytes, with_archived}, declared.state.State.{State}}
 use Rattle.rm_machine.proofs.Archives.{thread-either}
 
 -- from thread t on the online logs of q are those of s

@@ -2,8 +2,7 @@
 use Rattle.std.specs.Prelude.{ℕ, ◌+◌, ◌<◌, ◌≤◌, length}
 use Rattle.rm_catalog_typed.specs.Ledger.{ledger_records}
 use Rattle.rm_redo.specs.Online.{sequence_of}
-use Rattle.rm_machine.specs.declared.state.State.{State}
-use Rattle.rm_machine.specs.State.{ledger}
+use Rattle.rm_machine.specs.{State.{ledger}, declared.state.State.{State}}
 
 -- there is room for a record, an id, and a sequence number for the log that the thread begins anew
 pub record HasSpace (s : State) (t : ℕ) : Type 0 where

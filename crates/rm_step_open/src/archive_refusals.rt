@@ -1,11 +1,8 @@
 //! Why logs can't be archived.
 ghost use Rattle.std.specs.Prelude.{◌≡◌, ◌≤◌, if◌then◌else◌, Some, None};
-ghost use Rattle.rm_base.specs.declared.refusal.Limit.TheVariants.{Bytes, ObjectIds, Records, Sequences};
-ghost use Rattle.rm_base.specs.declared.refusal.Refusal.TheVariants.{Rm11};
-ghost use Rattle.rm_machine.specs.Archive.{archive_all_refusal, archiving_refusal};
-ghost use Rattle.rm_machine.specs.Marks.{lacks_bytes, lacks_ids, lacks_room};
-ghost use Rattle.rm_machine.specs.Sound.{IsSound};
-ghost use Rattle.rm_machine.specs.SwitchLogfile.{archive_refusal, switch_refusal};
+ghost use Rattle.rm_base.specs.declared.refusal.{Limit.TheVariants.{Bytes, ObjectIds, Records, Sequences}, Refusal.TheVariants.{Rm11}};
+ghost use Rattle.rm_machine.specs.{Archive.{archive_all_refusal, archiving_refusal}, Marks.{lacks_bytes, lacks_ids, lacks_room}};
+ghost use Rattle.rm_machine.specs.{Sound.{IsSound}, SwitchLogfile.{archive_refusal, switch_refusal}};
 ghost use Rattle.rm_redo.specs.Online.{IsThread};
 
 use crate::due::{bytes_due, is_due, is_last_sequence, log_bytes, logs_due};

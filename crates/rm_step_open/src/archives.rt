@@ -2,12 +2,9 @@
 ghost use Rattle.std.specs.Prelude.{◌≡◌, ◌<◌, ◌++◌, ◌∷◌, [], IfOk, OnOk, None, true};
 ghost use Rattle.rm_step_open.specs.Space.{HasSpace};
 ghost use Rattle.rm_machine.specs.Archive.{after_all, after_thread, archiving_refusal, lines_from, puts_by, puts_from, thread_lines};
-ghost use Rattle.rm_machine.specs.Sound.{IsSound};
-ghost use Rattle.rm_machine.specs.State.{ledger, online};
-ghost use Rattle.rm_machine.specs.SwitchLogfile.{is_due, made_lines, with_archived};
+ghost use Rattle.rm_machine.specs.{Sound.{IsSound}, State.{ledger, online}, SwitchLogfile.{is_due, made_lines, with_archived}};
 ghost use Rattle.rm_evidence.specs.Names.{log_name};
-ghost use Rattle.rm_redo.specs.LogFormat.{spelling};
-ghost use Rattle.rm_redo.specs.Online.{IsThread};
+ghost use Rattle.rm_redo.specs.{LogFormat.{spelling}, Online.{IsThread}};
 ghost use Rattle.rm_catalog_typed.specs.Changes.{EditsFollow};
 
 use crate::due::{has_log, is_due};

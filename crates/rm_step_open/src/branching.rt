@@ -2,12 +2,9 @@
 ghost use Rattle.std.specs.Prelude.{◌≡◌, ◌<◌, length, IfOk, None, OnOk, Option, Some};
 ghost use Rattle.rm_base.specs.Store.{Held};
 ghost use Rattle.rm_lang_statement.specs.declared.command.Command.TheVariants.{OpenResetlogs};
-ghost use Rattle.rm_machine.specs.Hands.{Hands};
-ghost use Rattle.rm_machine.specs.OpenResetlogs.{branch_refusal, branched_off, resetlogs_refusal};
-ghost use Rattle.rm_machine.specs.Sound.{IsSound};
+ghost use Rattle.rm_machine.specs.{Hands.{Hands}, OpenResetlogs.{branch_refusal, branched_off, resetlogs_refusal}, Sound.{IsSound}};
 ghost use Rattle.rm_machine.specs.State.{tree};
-ghost use Rattle.rm_catalog_typed.specs.Changes.{EditsFollow};
-ghost use Rattle.rm_catalog_typed.specs.Fitting.{HasRoomFor};
+ghost use Rattle.rm_catalog_typed.specs.{Changes.{EditsFollow}, Fitting.{HasRoomFor}};
 
 use crate::archive_refusals::archiving_refusal;
 use crate::archives::archive_all;

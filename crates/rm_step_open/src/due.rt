@@ -1,9 +1,7 @@
 //! What the threads of a database have to archive.
 ghost use Rattle.std.specs.Prelude.{◌≡◌, ◌<◌, ◌≤◌, if◌then◌else◌, IsTrue};
-ghost use Rattle.rm_machine.specs.Archive.{bytes_from, due_from, is_last_sequence};
-ghost use Rattle.rm_machine.specs.DisableThread.{lacks_sequence, logs_due};
-ghost use Rattle.rm_machine.specs.State.{is_online};
-ghost use Rattle.rm_machine.specs.SwitchLogfile.{is_due, log_bytes};
+ghost use Rattle.rm_machine.specs.{Archive.{bytes_from, due_from, is_last_sequence}, DisableThread.{lacks_sequence, logs_due}};
+ghost use Rattle.rm_machine.specs.{State.{is_online}, SwitchLogfile.{is_due, log_bytes}};
 ghost use Rattle.rm_redo.specs.Online.{IsThread, has_log};
 
 use rm_base::ThreadNo;

@@ -2,10 +2,7 @@
 ghost use Rattle.std.specs.Prelude.{◌≡◌, IfOk, None, OnErr, OnOk, Option};
 ghost use Rattle.rm_base.specs.Store.{Held};
 ghost use Rattle.rm_lang_statement.specs.declared.command.Command.TheVariants.{OpenPlain};
-ghost use Rattle.rm_machine.specs.Hands.{Hands};
-ghost use Rattle.rm_machine.specs.Open.{is_recovered, open_refusal, opened};
-ghost use Rattle.rm_machine.specs.Sound.{IsSound};
-ghost use Rattle.rm_machine.specs.Tracked.{with_tracker};
+ghost use Rattle.rm_machine.specs.{Hands.{Hands}, Open.{is_recovered, open_refusal, opened}, Sound.{IsSound}, Tracked.{with_tracker}};
 
 use crate::place::keep_in_place;
 use rm_base::{NoMemory, Refusal, Scn, Seq};

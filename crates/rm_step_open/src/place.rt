@@ -1,8 +1,7 @@
 //! What stands in place of the datafiles.
 ghost use Rattle.std.specs.Prelude.{◌≡◌, ◌<◌, length, All};
 ghost use Rattle.rm_history.specs.Tree.{IsThere};
-ghost use Rattle.rm_machine.specs.Open.{kept_in_place};
-ghost use Rattle.rm_machine.specs.State.{ledger, tree, world};
+ghost use Rattle.rm_machine.specs.{Open.{kept_in_place}, State.{ledger, tree, world}};
 
 use rm_base::{IncNo, Scn};
 use rm_blocks::DataFile;

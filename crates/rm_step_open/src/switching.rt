@@ -2,10 +2,7 @@
 ghost use Rattle.std.specs.Prelude.{◌≡◌, IfOk, OnOk, Option, None};
 ghost use Rattle.rm_base.specs.Store.{Held};
 ghost use Rattle.rm_lang_statement.specs.declared.command.Command.TheVariants.{ArchiveLogCurrent, SwitchLogfile};
-ghost use Rattle.rm_machine.specs.Archive.{archive_all_refusal};
-ghost use Rattle.rm_machine.specs.Hands.{Hands};
-ghost use Rattle.rm_machine.specs.Sound.{IsSound};
-ghost use Rattle.rm_machine.specs.SwitchLogfile.{switch_refusal};
+ghost use Rattle.rm_machine.specs.{Archive.{archive_all_refusal}, Hands.{Hands}, Sound.{IsSound}, SwitchLogfile.{switch_refusal}};
 ghost use Rattle.rm_catalog_typed.specs.Changes.{EditsFollow};
 
 use crate::archives::{archive_all, archive_thread};

@@ -3,11 +3,8 @@ ghost use Rattle.std.specs.Prelude.{◌≡◌, ◌<◌, ◌≤◌, ◌&&◌, ◌
 ghost use Rattle.rm_base.specs.Store.{Held};
 ghost use Rattle.rm_lang_statement.specs.declared.command.Command.TheVariants.{SwitchThread};
 ghost use Rattle.rm_machine.specs.DisableThread.{disable_refusal, disabling_refusal, has_other, lacks_sequence, last_refusal, switch_off};
-ghost use Rattle.rm_machine.specs.EnableThread.{enable_refusal, enabling_refusal, is_outside, switch_on};
-ghost use Rattle.rm_machine.specs.Hands.{Hands};
-ghost use Rattle.rm_machine.specs.Marks.{lacks_bytes};
-ghost use Rattle.rm_machine.specs.Sound.{IsSound};
-ghost use Rattle.rm_machine.specs.SwitchLogfile.{is_due, log_bytes};
+ghost use Rattle.rm_machine.specs.{EnableThread.{enable_refusal, enabling_refusal, is_outside, switch_on}, Hands.{Hands}};
+ghost use Rattle.rm_machine.specs.{Marks.{lacks_bytes}, Sound.{IsSound}, SwitchLogfile.{is_due, log_bytes}};
 ghost use Rattle.rm_redo.specs.Online.{IsThread, has_log};
 ghost use Rattle.rm_catalog_typed.specs.Changes.{EditsFollow};
 

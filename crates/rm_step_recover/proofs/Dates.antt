@@ -1,23 +1,16 @@
 -- No line of these statements tells a moment.
-use Rattle.std.proofs.Common.{◌≡◌, ◌∙◌, ◌++◌, ◌∷◌, ℕ, Bool, true, false, List, [], Option, Some, None, refl, ap, sym, subst, length}
 use Rattle.std.specs.Prelude.{All, if◌then◌else◌}
+use Rattle.std.proofs.Common.{◌≡◌, ◌∙◌, ◌++◌, ◌∷◌, ℕ, Bool, true, false, List, [], Option, Some, None, refl, ap, sym, subst, length}
 use Rattle.std.proofs.lemmas.List.Elements.{All-append, All-cons, All-nil}
-use Rattle.rm_apply.specs.declared.origin.Origin.{Origin}
-use Rattle.rm_apply.specs.declared.origin.Origin.TheVariants.{Backup, Created}
-use Rattle.rm_base.specs.declared.block.Row.{Row}
-use Rattle.rm_base.specs.declared.kinds.Bad.{Bad}
+use Rattle.rm_apply.specs.declared.origin.Origin.{Origin, TheVariants.{Backup, Created}}
+use Rattle.rm_base.specs.declared.{block.Row.{Row}, kinds.Bad.{Bad}}
 use Rattle.rm_blocks.specs.File.{File}
-use Rattle.rm_history.specs.declared.world.World.{World}
-use Rattle.rm_history.specs.World.{creation_of}
+use Rattle.rm_history.specs.{World.{creation_of}, declared.world.World.{World}}
 use Rattle.rm_plan.specs.declared.plan.Gap.{Gap}
-use Rattle.rm_report.specs.Reply.{IsPlain}
-use Rattle.rm_report.specs.declared.line.Line.{Line}
-use Rattle.rm_report.specs.declared.line.Line.TheVariants.{BlockIs, Recovered, UntilIs}
-use Rattle.rm_machine.specs.Recovery.{skipped_lines}
-use Rattle.rm_machine.specs.RecoverTest.{block_lines, file_lines, files_lines, is_written, test_lines}
-use Rattle.rm_machine.specs.Restore.{gap_line, origin_line, origin_lines}
+use Rattle.rm_report.specs.{Reply.{IsPlain}, declared.line.Line.{Line, TheVariants.{BlockIs, Recovered, UntilIs}}}
+use Rattle.rm_machine.specs.{Recovery.{skipped_lines}, RecoverTest.{block_lines, file_lines, files_lines, is_written, test_lines}}
+use Rattle.rm_machine.{specs.Restore.{gap_line, origin_line, origin_lines}, proofs.Skipped.{skipped-dated}}
 use Rattle.rm_step_recover.specs.Lines.{rows_lines}
-use Rattle.rm_machine.proofs.Skipped.{skipped-dated}
 
 abbrev AreDated : List Line → Type 0
 AreDated lines = All IsPlain lines

@@ -1,9 +1,7 @@
 -- The lines of one datafile after the other.
-use Rattle.std.proofs.Common.{◌≡◌, ◌<◌, ◌+◌, ◌∙◌, ◌++◌, ℕ, List, ap, sym, append_assoc, length, get_or, drop}
-use Rattle.std.proofs.lemmas.List.{drop_more}
+use Rattle.std.proofs.{Common.{◌≡◌, ◌<◌, ◌+◌, ◌∙◌, ◌++◌, ℕ, List, ap, sym, append_assoc, length, get_or, drop}, lemmas.List.{drop_more}}
 use Rattle.rm_blocks.specs.File.{File}
-use Rattle.rm_history.specs.declared.world.World.{World}
-use Rattle.rm_history.specs.World.{creation_of}
+use Rattle.rm_history.specs.{World.{creation_of}, declared.world.World.{World}}
 use Rattle.rm_report.specs.declared.line.Line.{Line}
 use Rattle.rm_machine.specs.RecoverTest.{file_lines, files_lines}
 

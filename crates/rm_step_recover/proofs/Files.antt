@@ -1,36 +1,19 @@
 -- The datafiles that are brought back have their places and their lines.
-use Rattle.std.proofs.Common.{◌≡◌, ◌<◌, ◌≤◌, ◌∙◌, ℕ, List, Option, Some, ap, sym, subst, arith, length, All, Contains}
 use Rattle.std.specs.Option.{option_map_or}
-use Rattle.std.proofs.lemmas.List.Elements.{All-contains}
-use Rattle.std.proofs.lemmas.Option.{slice_get_within}
-use Rattle.rm_base.specs.Store.{Held}
-use Rattle.rm_base.proofs.Lists.{map_from, map_to}
-use Rattle.rm_base.proofs.Slots.{all-get}
+use Rattle.std.proofs.Common.{◌≡◌, ◌<◌, ◌≤◌, ◌∙◌, ℕ, List, Option, Some, ap, sym, subst, arith, length, All, Contains}
+use Rattle.std.proofs.lemmas.{List.Elements.{All-contains}, Option.{slice_get_within}}
+use Rattle.rm_base.{specs.Store.{Held}, proofs.{Lists.{map_from, map_to}, Slots.{all-get}}}
 use Rattle.rm_blocks.specs.File.{File}
 use Rattle.rm_evidence.specs.Known.{known_of}
-use Rattle.rm_history.specs.declared.world.Datafile.{Datafile}
-use Rattle.rm_history.specs.declared.world.World.{World}
-use Rattle.rm_catalog_typed.specs.LedgerFacts.{IsCreated}
+use Rattle.rm_history.specs.declared.world.{Datafile.{Datafile}, World.{World}}
+use Rattle.rm_catalog_typed.{specs.{LedgerFacts.{IsCreated}, TypedCatalog.{records_of}}, proofs.Records.{world-told}}
 use Rattle.rm_plan.specs.Plan.{IsFileTarget}
-use Rattle.rm_catalog_typed.specs.TypedCatalog.{records_of}
-use Rattle.rm_apply.specs.declared.origin.Origin.{Origin}
-use Rattle.rm_apply.specs.declared.recovering.Recovered.{Recovered}
-use Rattle.rm_apply.specs.Files.{AreExactly, IsAsked}
-use Rattle.rm_apply.specs.Recover.{TellsAll}
-use Rattle.rm_apply.specs.Restore.{IsRestoration, Restoration, Restores, restored}
-use Rattle.rm_apply.specs.Told.{AreFilesAt, IsTold}
-use Rattle.rm_machine.specs.Recovery.{in_place}
-use Rattle.rm_machine.specs.Sound.{IsSound}
-use Rattle.rm_machine.specs.declared.state.State.{State}
-use Rattle.rm_machine.specs.State.{ledger, tree, world}
-use Rattle.rm_machine.proofs.Numbers.{file-place}
-use Rattle.rm_machine.proofs.Placing.{number}
-use Rattle.rm_catalog_typed.proofs.Records.{world-told}
-use Rattle.rm_machine.proofs.Restoring.{are-restored, file-number}
-use Rattle.rm_machine.proofs.Standing.{each-in}
+use Rattle.rm_apply.specs.{Files.{AreExactly, IsAsked}, Recover.{TellsAll}, Restore.{IsRestoration, Restoration, Restores, restored}}
+use Rattle.rm_apply.specs.{Told.{AreFilesAt, IsTold}, declared.{origin.Origin.{Origin}, recovering.Recovered.{Recovered}}}
+use Rattle.rm_machine.specs.{Recovery.{in_place}, Sound.{IsSound}, State.{ledger, tree, world}, declared.state.State.{State}}
+use Rattle.rm_machine.proofs.{Numbers.{file-place}, Placing.{number}, Restoring.{are-restored, file-number}, Standing.{each-in}}
 use Rattle.rm_machine.proofs.Told.{tells-files}
-use Rattle.rm_step_recover.specs.Lines.{HasLines}
-use Rattle.rm_step_recover.specs.Placing.{HasPlace}
+use Rattle.rm_step_recover.specs.{Lines.{HasLines}, Placing.{HasPlace}}
 
 module _ (held : Option Held) (s : State) (sound : IsSound s) (i at : ℕ) where
   -- a datafile of the target has its place

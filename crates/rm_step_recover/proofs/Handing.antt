@@ -1,29 +1,15 @@
 -- What is at hand, as what the statements come to.
 use Rattle.std.proofs.Common.{◌≡◌, ◌∙◌, ◌++◌, inr, ℕ, List, [], ◌∷◌, Option, Some, Result, Ok, IfOk, ap, sym, subst, length, map}
-use Rattle.rm_apply.specs.declared.origin.Origin.{Origin}
+use Rattle.rm_apply.specs.{Files.{AreExactly}, Preview.{Previews}, Recover.{TellsAll}, Restore.{Restores}, declared.origin.Origin.{Origin}}
 use Rattle.rm_apply.specs.declared.recovering.Recovered.{Recovered}
-use Rattle.rm_apply.specs.Files.{AreExactly}
-use Rattle.rm_apply.specs.Preview.{Previews}
-use Rattle.rm_apply.specs.Recover.{TellsAll}
-use Rattle.rm_apply.specs.Restore.{Restores}
-use Rattle.rm_base.specs.Store.{Held}
-use Rattle.rm_base.specs.declared.kinds.Bad.{Bad}
-use Rattle.rm_base.specs.declared.refusal.Refusal.{Refusal}
-use Rattle.rm_plan.specs.declared.plan.Gap.{Gap}
-use Rattle.rm_plan.specs.Plan.{IsFileTarget}
-use Rattle.rm_report.specs.declared.line.Line.{Line}
-use Rattle.rm_report.specs.declared.line.Line.TheVariants.{Recovered as recovered_line}
+use Rattle.rm_base.specs.{Store.{Held}, declared.{kinds.Bad.{Bad}, refusal.Refusal.{Refusal}}}
+use Rattle.rm_plan.specs.{Plan.{IsFileTarget}, declared.plan.Gap.{Gap}}
+use Rattle.rm_report.specs.declared.line.Line.{Line, TheVariants.{Recovered as recovered_line}}
 use Rattle.rm_catalog_typed.specs.TypedCatalog.{records_of}
-use Rattle.rm_lang_statement.specs.declared.command.Command.TheVariants.{Preview, Recover, Restore}
-use Rattle.rm_lang_statement.specs.declared.command.Until.{Until}
-use Rattle.rm_machine.specs.declared.handed.Handed.{Handed}
-use Rattle.rm_machine.specs.Effect.{done, no_effect, told}
-use Rattle.rm_machine.specs.Hands.{Hands, Tells}
-use Rattle.rm_machine.specs.Recover.{RecoversTo, recover_target, recovered}
-use Rattle.rm_machine.specs.Recovery.{in_place, skipped_lines}
-use Rattle.rm_machine.specs.Restore.{PreviewsTo, RestoresTo, gap_line, origin_lines, restored}
-use Rattle.rm_machine.specs.declared.state.State.{State}
-use Rattle.rm_machine.specs.State.{current_of, world}
+use Rattle.rm_lang_statement.specs.declared.command.{Command.TheVariants.{Preview, Recover, Restore}, Until.{Until}}
+use Rattle.rm_machine.specs.{Effect.{done, no_effect, told}, Hands.{Hands, Tells}, Recover.{RecoversTo, recover_target, recovered}}
+use Rattle.rm_machine.specs.{Recovery.{in_place, skipped_lines}, Restore.{PreviewsTo, RestoresTo, gap_line, origin_lines, restored}}
+use Rattle.rm_machine.specs.{State.{current_of, world}, declared.{handed.Handed.{Handed}, state.State.{State}}}
 
 -- what came back, under the names that a statement has for it
 pub told-at : (held : Option Held) (s : State) (i j at : ℕ) (x : Result Recovered Refusal) (back : Recovered) → i ≡ j → x ≡ Ok back → IfOk x (λ b. TellsAll held (records_of s.catalog) (in_place s) i at b)

@@ -1,6 +1,5 @@
 -- Datafiles that come to stand in place, one after the other.
-use Rattle.std.proofs.Common.{◌≡◌, ◌-◌, ◌∙◌, ℕ, List, ◌∷◌, Option, Some, ap, sym, subst, length, slice_set, All}
-use Rattle.std.proofs.lemmas.List.{length-set}
+use Rattle.std.proofs.{Common.{◌≡◌, ◌-◌, ◌∙◌, ℕ, List, ◌∷◌, Option, Some, ap, sym, subst, length, slice_set, All}, lemmas.List.{length-set}}
 use Rattle.std.proofs.lemmas.List.Elements.{All-rest}
 use Rattle.rm_blocks.specs.File.{File}
 use Rattle.rm_machine.specs.Recovery.{put_over}

@@ -1,32 +1,16 @@
 -- The records of a state as a list, the database of which they tell, and what is in place beside them.
-use Rattle.std.proofs.Common.{◌≡◌, ◌∙◌, ℕ, List, Option, Some, None, refl, ap, map, sym, subst}
-use Rattle.std.specs.Option.{option_map}
+use Rattle.std.{specs.Option.{option_map}, proofs.Common.{◌≡◌, ◌∙◌, ℕ, List, Option, Some, None, refl, ap, map, sym, subst}}
 use Rattle.rm_base.specs.declared.refusal.Refusal.TheVariants.{Rm06}
-use Rattle.rm_catalog.specs.declared.record.Record.{Record}
-use Rattle.rm_catalog.specs.Trees.{nodes}
-use Rattle.rm_evidence.specs.declared.evidence.InPlace.{InPlace}
-use Rattle.rm_evidence.specs.Place.{FitsPlace}
-use Rattle.rm_history.specs.declared.tree.Incarnation.{Incarnation}
-use Rattle.rm_history.specs.Tree.{IsThere}
-use Rattle.rm_history.specs.declared.world.World.{World}
+use Rattle.rm_catalog.specs.{Trees.{nodes}, declared.record.Record.{Record}}
+use Rattle.rm_evidence.specs.{Place.{FitsPlace}, Database.{world_of}, declared.evidence.InPlace.{InPlace}}
+use Rattle.rm_history.specs.{Tree.{IsThere}, declared.{tree.Incarnation.{Incarnation}, world.World.{World}}}
 use Rattle.rm_plan.specs.Plan.{IsFileTarget}
-use Rattle.rm_evidence.specs.Database.{world_of}
-use Rattle.rm_catalog_typed.specs.TypedCatalog.{records_of}
-use Rattle.rm_apply.specs.declared.targets.TargetFile.{TargetFile}
-use Rattle.rm_apply.specs.Files.{AreExactly, IsAsked}
-use Rattle.rm_apply.proofs.Numbers.{unnamed}
-use Rattle.rm_apply.specs.declared.fault.RecoverFault.{RecoverFault}
-use Rattle.rm_apply.specs.declared.fault.RecoverFault.TheVariants as kind
-use Rattle.rm_apply.specs.Recover.{outside, until_in}
+use Rattle.rm_catalog_typed.{specs.TypedCatalog.{records_of}, proofs.Records.{tree-told, world-told}}
+use Rattle.rm_apply.specs.{Files.{AreExactly, IsAsked}, Recover.{outside, until_in}, declared.targets.TargetFile.{TargetFile}}
+use Rattle.rm_apply.{specs.declared.fault.RecoverFault.{RecoverFault, TheVariants as kind}, proofs.Numbers.{unnamed}}
 use Rattle.rm_lang_statement.specs.declared.command.Until.{Until}
-use Rattle.rm_machine.specs.Recover.{recover_target}
-use Rattle.rm_machine.specs.Recovery.{in_place, range_refusal}
-use Rattle.rm_machine.specs.Restore.{preview_refusal}
-use Rattle.rm_machine.specs.Sound.{IsSound}
-use Rattle.rm_machine.specs.declared.state.State.{State}
-use Rattle.rm_machine.specs.State.{current_of, tree, world}
-use Rattle.rm_machine.proofs.Fitting.{place-fits}
-use Rattle.rm_catalog_typed.proofs.Records.{tree-told, world-told}
+use Rattle.rm_machine.specs.{Recover.{recover_target}, Recovery.{in_place, range_refusal}, Restore.{preview_refusal}, Sound.{IsSound}}
+use Rattle.rm_machine.{specs.{State.{current_of, tree, world}, declared.state.State.{State}}, proofs.Fitting.{place-fits}}
 use Rattle.rm_machine.proofs.Untils.{until-none}
 
 -- where there is nothing to map there was nothing

@@ -1,24 +1,12 @@
 -- The state stays sound, whatever the store tells.
 use Rattle.std.proofs.Common.{◌≡◌, ℕ, List, Option, Some, None, false}
-use Rattle.rm_apply.specs.declared.origin.Origin.{Origin}
-use Rattle.rm_apply.specs.declared.recovering.Recovered.{Recovered}
-use Rattle.rm_apply.specs.Recover.{TellsAll}
-use Rattle.rm_apply.specs.Restore.{Restores}
-use Rattle.rm_base.specs.Store.{Held}
-use Rattle.rm_base.specs.declared.refusal.Refusal.TheVariants.{Rm04}
-use Rattle.rm_base.proofs.Conditions.{unless}
+use Rattle.rm_apply.specs.{Recover.{TellsAll}, Restore.{Restores}, declared.{origin.Origin.{Origin}, recovering.Recovered.{Recovered}}}
+use Rattle.rm_base.{specs.{Store.{Held}, declared.refusal.Refusal.TheVariants.{Rm04}}, proofs.Conditions.{unless}}
 use Rattle.rm_catalog_typed.specs.TypedCatalog.{records_of}
 use Rattle.rm_lang_statement.specs.declared.command.Until.{Until}
-use Rattle.rm_machine.specs.Marks.{ids_refusal}
-use Rattle.rm_machine.specs.Recover.{recover_refusal, recover_target, recovered}
-use Rattle.rm_machine.specs.Recovery.{in_place}
-use Rattle.rm_machine.specs.Restore.{place_refusal, restore_refusal, restored}
-use Rattle.rm_machine.specs.Sound.{IsSound}
-use Rattle.rm_machine.specs.declared.state.State.{State}
-use Rattle.rm_machine.specs.State.{current_of}
-use Rattle.rm_machine.specs.Until.{until_refusal}
-use Rattle.rm_machine.proofs.Recovering.{can-recover, sound-recovered}
-use Rattle.rm_machine.proofs.Restoring.{sound-restored}
+use Rattle.rm_machine.specs.{Marks.{ids_refusal}, Recover.{recover_refusal, recover_target, recovered}, Recovery.{in_place}}
+use Rattle.rm_machine.specs.{Restore.{place_refusal, restore_refusal, restored}, Sound.{IsSound}, State.{current_of}, Until.{until_refusal}}
+use Rattle.rm_machine.{specs.declared.state.State.{State}, proofs.{Recovering.{can-recover, sound-recovered}, Restoring.{sound-restored}}}
 use Rattle.rm_machine.proofs.Told.{tells-files, tells-fits}
 
 module _ (held : Option Held) (s : State) (sound : IsSound s) (until : Option Until) (at : ℕ) (back : Recovered) where

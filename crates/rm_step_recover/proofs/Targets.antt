@@ -1,13 +1,11 @@
 -- A target that is not refused lies in its incarnation.
-use Rattle.std.proofs.Common.{◌≡◌, ◌<◌, ◌≤◌, ◌==◌, ◌||◌, ℕ, Bool, true, false, Option, Some, None, if◌then◌else◌, length, rules, refl, ap, nat_lt}
 use Rattle.std.specs.Option.{option_map}
+use Rattle.std.proofs.Common.{◌≡◌, ◌<◌, ◌≤◌, ◌==◌, ◌||◌, ℕ, Bool, true, false, Option, Some, None, if◌then◌else◌, length, rules, refl, ap, nat_lt}
 use Rattle.rm_apply.specs.Recover.{outside}
 use Rattle.rm_base.specs.declared.refusal.Refusal.TheVariants.{Rm06, Rm07}
 use Rattle.rm_history.specs.Tree.{IsThere}
 use Rattle.rm_lang_statement.specs.declared.command.Until.TheVariants.{Scn}
-use Rattle.rm_machine.specs.RecoverTest.{is_no_incarnation, test_refusal, tested}
-use Rattle.rm_machine.specs.Recovery.{range_refusal}
-use Rattle.rm_machine.specs.State.{tree}
+use Rattle.rm_machine.specs.{RecoverTest.{is_no_incarnation, test_refusal, tested}, Recovery.{range_refusal}, State.{tree}}
 use Rattle.rm_machine.specs.declared.state.State.{State}
 
 -- the incarnation is there, and the target in its range

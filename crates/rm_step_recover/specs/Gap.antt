@@ -1,11 +1,8 @@
 -- The refusal that names the first gap.
 use Rattle.std.specs.Prelude.{ℕ, ◌≡◌, Option}
 use Rattle.rm_apply.specs.Recover.{FindsGap}
-use Rattle.rm_base.specs.Store.{Held}
-use Rattle.rm_base.specs.declared.refusal.Refusal.{Refusal}
-use Rattle.rm_base.specs.declared.refusal.Refusal.TheVariants.{Rm08}
-use Rattle.rm_machine.specs.Recovery.{in_place}
-use Rattle.rm_machine.specs.declared.state.State.{State}
+use Rattle.rm_base.specs.{Store.{Held}, declared.refusal.Refusal.{Refusal, TheVariants.{Rm08}}}
+use Rattle.rm_machine.specs.{Recovery.{in_place}, declared.state.State.{State}}
 use Rattle.rm_plan.specs.declared.plan.Gap.{Gap}
 use Rattle.rm_catalog_typed.specs.TypedCatalog.{records_of}
 

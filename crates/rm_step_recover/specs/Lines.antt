@@ -3,8 +3,7 @@ use Rattle.std.specs.Prelude.{ℕ, ◌<◌, ◌≤◌, List, ◌∷◌, count_by
 use Rattle.rm_base.specs.declared.block.Row.{Row}
 use Rattle.rm_blocks.specs.File.{File}
 use Rattle.rm_machine.specs.RecoverTest.{block_lines, is_written}
-use Rattle.rm_report.specs.declared.line.Line.{Line}
-use Rattle.rm_report.specs.declared.line.Line.TheVariants.{FileIs}
+use Rattle.rm_report.specs.declared.line.Line.{Line, TheVariants.{FileIs}}
 
 -- a datafile that has a number, and as many blocks as one may have
 abbrev pub HasLines : File → Type 0

@@ -1,7 +1,6 @@
 //! What ends a restore or a preview.
 ghost use Rattle.std.specs.Prelude.{◌≡◌, None};
-ghost use Rattle.rm_apply.specs.Faults.{of_evidence};
-ghost use Rattle.rm_apply.specs.Recover.{IfGap, until_in};
+ghost use Rattle.rm_apply.specs.{Faults.{of_evidence}, Recover.{IfGap, until_in}};
 
 use rm_apply::RecoverFault;
 use rm_evidence::EvidenceFault;

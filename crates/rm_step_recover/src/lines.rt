@@ -1,7 +1,6 @@
 //! The lines of the replies.
 ghost use Rattle.std.specs.Prelude.{◌≡◌, ◌≤◌, ◌++◌, ◌∷◌, [], OnOk, All, length};
-ghost use Rattle.rm_machine.specs.RecoverTest.{block_lines, file_lines, files_lines, test_lines};
-ghost use Rattle.rm_machine.specs.Restore.{origin_line, origin_lines};
+ghost use Rattle.rm_machine.specs.{RecoverTest.{block_lines, file_lines, files_lines, test_lines}, Restore.{origin_line, origin_lines}};
 ghost use Rattle.rm_machine.specs.State.{world};
 ghost use Rattle.rm_step_recover.specs.Lines.{HasLines, rows_lines};
 

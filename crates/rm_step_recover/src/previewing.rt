@@ -1,9 +1,7 @@
 //! RESTORE DATABASE [UNTIL ..] PREVIEW
 ghost use Rattle.std.specs.Prelude.{◌≡◌, ◌≤◌, ◌++◌, ◌∷◌, [], All, IfOk, IsErrOf, None, map};
 ghost use Rattle.rm_base.specs.Outside.{Rose};
-ghost use Rattle.rm_machine.specs.Hands.{Tells};
-ghost use Rattle.rm_machine.specs.Recovery.{skipped_lines};
-ghost use Rattle.rm_machine.specs.Restore.{gap_line, origin_lines, preview_refusal};
+ghost use Rattle.rm_machine.specs.{Hands.{Tells}, Recovery.{skipped_lines}, Restore.{gap_line, origin_lines, preview_refusal}};
 ghost use Rattle.rm_machine.specs.Sound.{IsSound};
 ghost use Rattle.rm_report.specs.Reply.{IsPlain};
 ghost use Rattle.rm_lang_statement.specs.declared.command.Command.TheVariants.{Preview};

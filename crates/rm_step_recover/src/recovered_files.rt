@@ -3,9 +3,7 @@ ghost use Rattle.std.specs.Prelude.{◌≡◌, ◌≤◌, IfErr, IfOk, IsErrOf, 
 ghost use Rattle.rm_apply.specs.Recover.{TellsAll};
 ghost use Rattle.rm_base.specs.Outside.{Rose};
 ghost use Rattle.rm_history.specs.Tree.{IsThere};
-ghost use Rattle.rm_machine.specs.Recovery.{in_place, range_refusal};
-ghost use Rattle.rm_machine.specs.Sound.{IsSound};
-ghost use Rattle.rm_machine.specs.State.{tree};
+ghost use Rattle.rm_machine.specs.{Recovery.{in_place, range_refusal}, Sound.{IsSound}, State.{tree}};
 ghost use Rattle.rm_step_recover.specs.Gap.{NamesGap};
 ghost use Rattle.rm_catalog_typed.specs.TypedCatalog.{records_of};
 

@@ -2,12 +2,9 @@
 ghost use Rattle.std.specs.Prelude.{◌≡◌, ◌≤◌, ◌++◌, ◌∷◌, [], All, IfErr, IfOk, IsErrOf, None, OnOk, length};
 ghost use Rattle.rm_base.specs.Outside.{Rose};
 ghost use Rattle.rm_lang_statement.specs.declared.command.Command.TheVariants.{Recover};
-ghost use Rattle.rm_machine.specs.Hands.{Hands, Refuses};
-ghost use Rattle.rm_machine.specs.Recover.{recover_refusal, target_refusal};
-ghost use Rattle.rm_machine.specs.Recovery.{skipped_lines};
+ghost use Rattle.rm_machine.specs.{Hands.{Hands, Refuses}, Recover.{recover_refusal, target_refusal}, Recovery.{skipped_lines}};
 ghost use Rattle.rm_machine.specs.Sound.{IsSound};
-ghost use Rattle.rm_report.specs.Reply.{HasDate, IsPlain};
-ghost use Rattle.rm_report.specs.declared.line.Line.TheVariants.{Recovered as recovered_line};
+ghost use Rattle.rm_report.specs.{Reply.{HasDate, IsPlain}, declared.line.Line.TheVariants.{Recovered as recovered_line}};
 
 use crate::placing::put_in_place;
 use crate::recovered_files::recovered_at;

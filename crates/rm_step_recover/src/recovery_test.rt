@@ -2,9 +2,7 @@
 ghost use Rattle.std.specs.Prelude.{◌≡◌, ◌≤◌, All, IfErr, IfOk, IsErrOf, None};
 ghost use Rattle.rm_base.specs.Outside.{Rose};
 ghost use Rattle.rm_lang_statement.specs.declared.command.Command.TheVariants.{RecoverTest};
-ghost use Rattle.rm_machine.specs.Hands.{Refuses, Tells};
-ghost use Rattle.rm_machine.specs.RecoverTest.{test_refusal, tested, tested_refusal};
-ghost use Rattle.rm_machine.specs.Sound.{IsSound};
+ghost use Rattle.rm_machine.specs.{Hands.{Refuses, Tells}, RecoverTest.{test_refusal, tested, tested_refusal}, Sound.{IsSound}};
 ghost use Rattle.rm_report.specs.Reply.{HasDate, IsPlain};
 
 use crate::lines::push_test;

@@ -2,10 +2,8 @@
 ghost use Rattle.std.specs.Prelude.{◌≡◌, ◌≤◌, ◌++◌, All, IfErr, IfOk, IfSome, IsErrOf, None, OnOk, map};
 ghost use Rattle.rm_apply.specs.Restore.{Restores};
 ghost use Rattle.rm_base.specs.Outside.{Rose};
-ghost use Rattle.rm_machine.specs.Hands.{Hands};
-ghost use Rattle.rm_machine.specs.Recovery.{in_place, range_refusal, skipped_lines};
-ghost use Rattle.rm_machine.specs.Restore.{absent_refusal, origin_lines, place_refusal, restore_refusal};
-ghost use Rattle.rm_machine.specs.Sound.{IsSound};
+ghost use Rattle.rm_machine.specs.{Hands.{Hands}, Recovery.{in_place, range_refusal, skipped_lines}};
+ghost use Rattle.rm_machine.specs.{Restore.{absent_refusal, origin_lines, place_refusal, restore_refusal}, Sound.{IsSound}};
 ghost use Rattle.rm_machine.specs.State.{current_of, tree};
 ghost use Rattle.rm_report.specs.Reply.{IsPlain};
 ghost use Rattle.rm_catalog_typed.specs.TypedCatalog.{records_of};

@@ -1,22 +1,12 @@
 -- The database as those who mend and write find it, behind the mark that comes before the writes.
 use Rattle.std.proofs.Common.{◌≡◌, ◌<◌, ◌∙◌, ℕ, List, [], Option, Some, None, cond, is_none, refl, sym, subst, arith, length, All}
-use Rattle.rm_channel.specs.Room.{AreThreads, CanWrite}
-use Rattle.rm_channel.specs.declared.jobs.WriteJob.{WriteJob}
-use Rattle.rm_lang_statement.specs.declared.command.RepairForm.{RepairForm}
-use Rattle.rm_lang_statement.specs.declared.command.WriteForm.{WriteForm}
-use Rattle.rm_live.specs.Parts.{Parts}
-use Rattle.rm_live.specs.Ruled.{total}
-use Rattle.rm_machine.specs.Asked.{FitsNumbers, asked, lists_from, writers_in}
-use Rattle.rm_machine.specs.BlockRecover.{repair_begun}
-use Rattle.rm_machine.specs.Events.{opening}
-use Rattle.rm_machine.specs.Marks.{marks_before}
-use Rattle.rm_machine.specs.Running.{CanFollow}
-use Rattle.rm_machine.specs.Sound.{IsSound}
-use Rattle.rm_machine.specs.declared.state.State.{State}
-use Rattle.rm_machine.proofs.BackupMarks.{marked-same, sound-marked, unmarked-mark, with_mark}
-use Rattle.rm_machine.proofs.RepairAccepted.{CanRepair}
-use Rattle.rm_machine.proofs.Repaired.{marking}
-use Rattle.rm_machine.proofs.WritersRoom.{fits-numbers, no-writes, room-threads, room-writes}
+use Rattle.rm_channel.specs.{Room.{AreThreads, CanWrite}, declared.jobs.WriteJob.{WriteJob}}
+use Rattle.rm_lang_statement.specs.declared.command.{RepairForm.{RepairForm}, WriteForm.{WriteForm}}
+use Rattle.rm_live.specs.{Parts.{Parts}, Ruled.{total}}
+use Rattle.rm_machine.specs.{Asked.{FitsNumbers, asked, lists_from, writers_in}, BlockRecover.{repair_begun}, Events.{opening}}
+use Rattle.rm_machine.specs.{Marks.{marks_before}, Running.{CanFollow}, Sound.{IsSound}, declared.state.State.{State}}
+use Rattle.rm_machine.proofs.{BackupMarks.{marked-same, sound-marked, unmarked-mark, with_mark}, RepairAccepted.{CanRepair}}
+use Rattle.rm_machine.proofs.{Repaired.{marking}, WritersRoom.{fits-numbers, no-writes, room-threads, room-writes}}
 
 -- behind the mark no write needs one
 unmarked : (s : State) (d : Option (List WriteForm)) (n : ℕ) → 0 < total length (lists_from 1 n (asked d)) → marks_before (cond (is_none d) s (with_mark s)) ≡ []

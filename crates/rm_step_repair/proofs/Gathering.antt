@@ -1,37 +1,16 @@
 -- What is gathered tells of blocks of a state.
-use Rattle.std.proofs.Common.{◌≡◌, ◌∙◌, ℕ, List, Option, ap, subst, All}
-use Rattle.std.specs.Prelude.{IfSome}
-use Rattle.std.proofs.lemmas.Option.{IfSome_then}
-use Rattle.rm_base.specs.Store.{Held}
-use Rattle.rm_base.specs.declared.block.BlockId.{BlockId}
-use Rattle.rm_base.specs.declared.refusal.Refusal.{Refusal}
-use Rattle.rm_base.specs.declared.refusal.Refusal.TheVariants.{Rm08}
-use Rattle.rm_catalog.specs.declared.record.Record.{Record}
-use Rattle.rm_catalog.specs.Trees.{nodes}
-use Rattle.rm_catalog_typed.specs.TypedCatalog.{records_of}
-use Rattle.rm_evidence.specs.declared.evidence.Evidence.{Evidence}
-use Rattle.rm_evidence.specs.declared.evidence.InPlace.{InPlace}
-use Rattle.rm_evidence.specs.Database.{world_of}
-use Rattle.rm_evidence.specs.Gathered.{IsGathered}
-use Rattle.rm_evidence.specs.Known.{FitsTree, known_of}
-use Rattle.rm_evidence.specs.Place.{FitsPlace}
-use Rattle.rm_evidence.specs.Seen.{IsSeen}
-use Rattle.rm_evidence.proofs.Seen.{seen-told}
-use Rattle.rm_history.specs.FirstGap.{IsTarget}
-use Rattle.rm_history.specs.declared.tree.Incarnation.{Incarnation}
-use Rattle.rm_plan.specs.declared.plan.Gap.{Gap}
-use Rattle.rm_plan.specs.declared.plan.PlanFault.{PlanFault}
-use Rattle.rm_plan.specs.declared.plan.PlanFault.TheVariants as kind
-use Rattle.rm_plan.specs.Chosen.{IsFaultOf}
+use Rattle.std.{specs.Prelude.{IfSome}, proofs.{Common.{◌≡◌, ◌∙◌, ℕ, List, Option, ap, subst, All}, lemmas.Option.{IfSome_then}}}
+use Rattle.rm_base.specs.{Store.{Held}, declared.{block.BlockId.{BlockId}, refusal.Refusal.{Refusal, TheVariants.{Rm08}}}}
+use Rattle.rm_catalog.specs.{Trees.{nodes}, declared.record.Record.{Record}}
+use Rattle.rm_catalog_typed.{specs.TypedCatalog.{records_of}, proofs.Records.{tree-told, world-told}}
+use Rattle.rm_evidence.specs.{Database.{world_of}, Gathered.{IsGathered}, Known.{FitsTree, known_of}, Place.{FitsPlace}, Seen.{IsSeen}}
+use Rattle.rm_evidence.{specs.declared.evidence.{Evidence.{Evidence}, InPlace.{InPlace}}, proofs.Seen.{seen-told}}
+use Rattle.rm_history.specs.{FirstGap.{IsTarget}, declared.tree.Incarnation.{Incarnation}}
+use Rattle.rm_plan.specs.{Chosen.{IsFaultOf}, declared.plan.{Gap.{Gap}, PlanFault.{PlanFault, TheVariants as kind}}}
 use Rattle.rm_repair.specs.Jobs.{AreMendJobs}
-use Rattle.rm_machine.specs.Recovery.{IsAtHand, in_place}
-use Rattle.rm_machine.specs.Sound.{IsSound}
-use Rattle.rm_machine.specs.declared.state.State.{State}
-use Rattle.rm_machine.specs.State.{current_of, now_of, world}
-use Rattle.rm_machine.proofs.Fitting.{gathered-hand, place-fits}
-use Rattle.rm_catalog_typed.proofs.Records.{tree-told, world-told}
-use Rattle.rm_step_repair.specs.Told.{IsTargetNow, IsTold, NamesGap}
-use Rattle.rm_step_repair.specs.declared.telling.Told.{Told}
+use Rattle.rm_machine.specs.{Recovery.{IsAtHand, in_place}, Sound.{IsSound}, State.{current_of, now_of, world}}
+use Rattle.rm_machine.{specs.declared.state.State.{State}, proofs.Fitting.{gathered-hand, place-fits}}
+use Rattle.rm_step_repair.specs.{Told.{IsTargetNow, IsTold, NamesGap}, declared.telling.Told.{Told}}
 
 module _ (s : State) (rs : List Record) (place : InPlace) (records : rs ≡ records_of s.catalog) (is : place ≡ in_place s) where
   pub place-fits-records : IsSound s → FitsPlace rs place

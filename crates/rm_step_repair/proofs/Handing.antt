@@ -1,41 +1,20 @@
 -- What BLOCKRECOVER hands out.
+use Rattle.std.specs.{Global.{Global}, Prelude.{IfOk, IfSome, Vec}}
 use Rattle.std.proofs.Common.{◌≡◌, ◌≤◌, ◌∙◌, ◌++◌, inr, ℕ, List, [], Option, Some, None, Result, Ok, refl, ap, sym, subst, arith, length, map, All}
-use Rattle.std.specs.Global.{Global}
-use Rattle.std.specs.Prelude.{IfOk, IfSome, Vec}
-use Rattle.std.proofs.lemmas.List.{length-map}
-use Rattle.std.proofs.lemmas.Option.{same_Some}
-use Rattle.rm_base.specs.Store.{Held}
-use Rattle.rm_base.specs.declared.block.BlockId.{BlockId}
-use Rattle.rm_base.specs.declared.refusal.Refusal.{Refusal}
-use Rattle.rm_channel.specs.Jobs.{Deed, lists, wrote_of}
-use Rattle.rm_channel.specs.Made.{AreThese, deed}
-use Rattle.rm_evidence.specs.declared.evidence.Evidence.{Evidence}
-use Rattle.rm_evidence.specs.Known.{known_of}
-use Rattle.rm_lang_statement.specs.declared.command.Command.TheVariants.{BlockRecover}
-use Rattle.rm_lang_statement.specs.declared.command.RepairForm.{RepairForm}
-use Rattle.rm_repair.specs.declared.jobs.MendJob.{MendJob}
-use Rattle.rm_repair.specs.Mended.{HasBlock, IsOlder}
-use Rattle.rm_machine.specs.Asked.{asked, writers_in}
-use Rattle.rm_machine.specs.BackupOutcome.{write_lines}
+use Rattle.std.proofs.lemmas.{List.{length-map}, Option.{same_Some}}
+use Rattle.rm_base.specs.{Store.{Held}, declared.{block.BlockId.{BlockId}, refusal.Refusal.{Refusal}}}
+use Rattle.rm_channel.specs.{Jobs.{Deed, lists, wrote_of}, Made.{AreThese, deed}}
+use Rattle.rm_evidence.specs.{Known.{known_of}, declared.evidence.Evidence.{Evidence}}
+use Rattle.rm_lang_statement.specs.declared.command.{Command.TheVariants.{BlockRecover}, RepairForm.{RepairForm}}
+use Rattle.rm_repair.specs.{Mended.{HasBlock, IsOlder}, declared.jobs.MendJob.{MendJob}}
+use Rattle.rm_machine.specs.{Asked.{asked, writers_in}, BackupOutcome.{write_lines}}
 use Rattle.rm_machine.specs.BlockRecover.{blocks_mended, mend_lines, mends_of, repair_begun, without_mended}
-use Rattle.rm_machine.specs.BlockRecoverRefusal.{repair_refusal}
-use Rattle.rm_machine.specs.Effect.{no_effect}
-use Rattle.rm_machine.specs.Events.{after_events, changes_of, opening}
-use Rattle.rm_machine.specs.Hands.{Hands}
-use Rattle.rm_machine.specs.Recovery.{IsAtHand, skipped_lines}
-use Rattle.rm_machine.specs.Sound.{IsSound}
-use Rattle.rm_machine.specs.Step.{IsStatement}
-use Rattle.rm_machine.specs.declared.handed.Handed.{Handed}
-use Rattle.rm_machine.specs.declared.state.State.{State}
-use Rattle.rm_machine.specs.State.{now_of}
-use Rattle.rm_machine.proofs.Handing.{hands-by}
-use Rattle.rm_machine.proofs.RepairAccepted.{CanRepair, can-repair}
-use Rattle.rm_machine.proofs.Repaired.{repaired-sound}
-use Rattle.rm_machine.proofs.ToldRows.{CanStand}
+use Rattle.rm_machine.specs.{BlockRecoverRefusal.{repair_refusal}, Effect.{no_effect}, Events.{after_events, changes_of, opening}}
+use Rattle.rm_machine.specs.{Hands.{Hands}, Recovery.{IsAtHand, skipped_lines}, Sound.{IsSound}, Step.{IsStatement}, State.{now_of}}
+use Rattle.rm_machine.{specs.declared.{handed.Handed.{Handed}, state.State.{State}}, proofs.Handing.{hands-by}}
+use Rattle.rm_machine.proofs.{RepairAccepted.{CanRepair, can-repair}, Repaired.{repaired-sound}, ToldRows.{CanStand}}
 use Rattle.rm_machine.proofs.WritersRoom.{four-writers}
-use Rattle.rm_step_repair.specs.Gone.{HasRepaired}
-use Rattle.rm_step_repair.specs.Told.{IsTold, mended_line}
-use Rattle.rm_step_repair.specs.declared.telling.Told.{Told}
+use Rattle.rm_step_repair.specs.{Gone.{HasRepaired}, Told.{IsTold, mended_line}, declared.telling.Told.{Told}}
 use Rattle.rm_step_repair.proofs.Mends.{jobs-older, jobs-there, lines-are, mended-is, mended-stand, rows-stand, rows_of}
 
 -- what is at hand where the store tells

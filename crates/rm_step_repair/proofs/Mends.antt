@@ -1,29 +1,15 @@
 -- The jobs that mend blocks, and their lines.
 use Rattle.std.proofs.Common.{◌≡◌, ◌++◌, ℕ, suc, List, [], ◌∷◌, true, refl, sym, subst, map, All, IsSome}
 use Rattle.std.proofs.lemmas.List.Elements.{All-append, All-cons, All-filter, All-head, All-nil, All-tail, All-weaker}
-use Rattle.rm_base.specs.declared.block.BlockId.{BlockId}
-use Rattle.rm_base.specs.declared.block.Row.{Row}
-use Rattle.rm_evidence.specs.declared.evidence.Evidence.{Evidence}
-use Rattle.rm_evidence.specs.Known.{FitsTree, known_of}
+use Rattle.rm_base.specs.declared.block.{BlockId.{BlockId}, Row.{Row}}
+use Rattle.rm_evidence.specs.{Known.{FitsTree, known_of}, declared.evidence.Evidence.{Evidence}}
 use Rattle.rm_lang_statement.specs.declared.command.RepairForm.{RepairForm}
-use Rattle.rm_live.specs.declared.history.Answer.TheVariants.{Mended}
-use Rattle.rm_live.specs.declared.history.Call.TheVariants.{Mend}
-use Rattle.rm_live.specs.Parts.{row_at}
-use Rattle.rm_repair.specs.declared.jobs.MendJob.{MendJob}
-use Rattle.rm_repair.specs.Jobs.{AreMendJobs}
-use Rattle.rm_repair.specs.Mended.{HasBlock, IsOlder, mended}
-use Rattle.rm_report.specs.Reply.{IsPlain}
-use Rattle.rm_report.specs.declared.line.Line.{Line}
-use Rattle.rm_report.specs.declared.line.Line.TheVariants.{ThreadScn}
-use Rattle.rm_report.specs.declared.line.Line.TheVariants as line
-use Rattle.rm_machine.specs.BackupOutcome.{write_lines}
-use Rattle.rm_machine.specs.BlockRecover.{asks_for, blocks_mended, mend_lines, mends_of}
-use Rattle.rm_machine.specs.Damage.{IsInPlace}
-use Rattle.rm_machine.specs.Events.{opening, standing_in}
-use Rattle.rm_machine.specs.Sound.{IsSound}
-use Rattle.rm_machine.specs.declared.state.State.{State}
-use Rattle.rm_machine.specs.State.{current_of, now_of, tree, world}
-use Rattle.rm_machine.proofs.ToldRows.{CanStand, IsTargetNow, in-place-target, told-stand}
+use Rattle.rm_live.specs.{Parts.{row_at}, declared.history.{Answer.TheVariants.{Mended}, Call.TheVariants.{Mend}}}
+use Rattle.rm_repair.specs.{Jobs.{AreMendJobs}, Mended.{HasBlock, IsOlder, mended}, declared.jobs.MendJob.{MendJob}}
+use Rattle.rm_report.specs.{Reply.{IsPlain}, declared.line.Line.{Line, TheVariants as line, TheVariants.{ThreadScn}}}
+use Rattle.rm_machine.specs.{BackupOutcome.{write_lines}, BlockRecover.{asks_for, blocks_mended, mend_lines, mends_of}, Damage.{IsInPlace}}
+use Rattle.rm_machine.specs.{Events.{opening, standing_in}, Sound.{IsSound}, State.{current_of, now_of, tree, world}}
+use Rattle.rm_machine.{specs.declared.state.State.{State}, proofs.ToldRows.{CanStand, IsTargetNow, in-place-target, told-stand}}
 use Rattle.rm_machine.proofs.WritersRoom.{row-found}
 use Rattle.rm_step_repair.specs.Told.{mended_line}
 

@@ -1,18 +1,12 @@
 -- The blocks that a BLOCKRECOVER names, where they are there: their numbers are small.
-use Rattle.std.proofs.Common.{◌≡◌, ◌<◌, ◌≤◌, ◌∙◌, inl, inr, ℕ, List, Option, Some, None, Bool, nat_le, refl, ap, sym, subst, arith, find, Contains}
 use Rattle.std.specs.Option.{option_and_then, option_map, option_map_or}
+use Rattle.std.proofs.Common.{◌≡◌, ◌<◌, ◌≤◌, ◌∙◌, inl, inr, ℕ, List, Option, Some, None, Bool, nat_le, refl, ap, sym, subst, arith, find, Contains}
 use Rattle.std.proofs.lemmas.Bool.{cases_lt, le-leb}
-use Rattle.rm_base.specs.declared.refusal.Absent.{Absent}
-use Rattle.rm_base.specs.declared.refusal.Absent.TheVariants as absent
-use Rattle.rm_base.proofs.Lists.{find_cases, find_none}
+use Rattle.rm_base.{specs.declared.refusal.Absent.{Absent, TheVariants as absent}, proofs.Lists.{find_cases, find_none}}
 use Rattle.rm_history.specs.declared.world.Datafile.{Datafile}
 use Rattle.rm_lang_statement.specs.declared.command.NamedBlocks.{NamedBlocks}
-use Rattle.rm_machine.specs.BlockRecoverRefusal.{absent_named}
-use Rattle.rm_machine.specs.Sound.{IsSound}
-use Rattle.rm_machine.specs.declared.state.State.{State}
-use Rattle.rm_machine.specs.State.{on_path}
-use Rattle.rm_machine.proofs.Numbers.{numbered}
-use Rattle.rm_machine.proofs.Tracked.{on-path}
+use Rattle.rm_machine.specs.{BlockRecoverRefusal.{absent_named}, Sound.{IsSound}, State.{on_path}, declared.state.State.{State}}
+use Rattle.rm_machine.proofs.{Numbers.{numbered}, Tracked.{on-path}}
 
 -- what a search finds is a member
 pub found-in : {X : Type 0} (p : X → Bool) (xs : List X) (x : X) → find p xs ≡ Some x → Contains xs x

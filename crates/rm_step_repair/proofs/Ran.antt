@@ -1,16 +1,10 @@
 -- What mends and writes made of the running database can be put back.
 use Rattle.std.proofs.Common.{◌≡◌, ℕ, List, [], ◌∷◌, Ok, refl, arith, map}
 use Rattle.rm_channel.specs.declared.jobs.WriteJob.{WriteJob}
-use Rattle.rm_live.specs.Ruled.{total}
-use Rattle.rm_live.specs.Parts.{Parts}
-use Rattle.rm_machine.specs.Events.{after_events, opening}
-use Rattle.rm_machine.specs.Running.{CanFollow, HasRun, IsTakenOut}
-use Rattle.rm_machine.specs.Sound.{IsSound}
-use Rattle.rm_machine.specs.declared.state.State.{State}
-use Rattle.rm_machine.proofs.Ended.{is_once}
-use Rattle.rm_machine.proofs.Ran.{has-run as ran}
-use Rattle.rm_repair.specs.declared.jobs.MendJob.{MendJob}
-use Rattle.rm_repair.specs.Mended.{mended}
+use Rattle.rm_live.specs.{Ruled.{total}, Parts.{Parts}}
+use Rattle.rm_machine.specs.{Events.{after_events, opening}, Running.{CanFollow, HasRun, IsTakenOut}, Sound.{IsSound}}
+use Rattle.rm_machine.{specs.declared.state.State.{State}, proofs.{Ended.{is_once}, Ran.{has-run as ran}}}
+use Rattle.rm_repair.specs.{Mended.{mended}, declared.jobs.MendJob.{MendJob}}
 use Rattle.rm_step_repair.specs.Gone.{HasGone, HasRepaired}
 
 -- no mend is a write

@@ -1,15 +1,9 @@
 -- Mends and writes of a running database.
 use Rattle.std.specs.Prelude.{ℕ, ◌≡◌, ◌++◌, Ok, List, map}
-use Rattle.rm_channel.specs.Jobs.{AreAsLong, wrote_of}
-use Rattle.rm_channel.specs.Made.{AreThese, deed}
-use Rattle.rm_channel.specs.declared.jobs.WriteJob.{WriteJob}
-use Rattle.rm_live.specs.declared.history.Event.{Event}
-use Rattle.rm_live.specs.History.{IsLegal, fold_of}
-use Rattle.rm_live.specs.Parts.{Parts}
-use Rattle.rm_machine.specs.Events.{after_events, opening}
-use Rattle.rm_machine.specs.declared.state.State.{State}
-use Rattle.rm_repair.specs.declared.jobs.MendJob.{MendJob}
-use Rattle.rm_repair.specs.Mended.{mended}
+use Rattle.rm_channel.specs.{Jobs.{AreAsLong, wrote_of}, Made.{AreThese, deed}, declared.jobs.WriteJob.{WriteJob}}
+use Rattle.rm_live.specs.{History.{IsLegal, fold_of}, Parts.{Parts}, declared.history.Event.{Event}}
+use Rattle.rm_machine.specs.{Events.{after_events, opening}, declared.state.State.{State}}
+use Rattle.rm_repair.specs.{Mended.{mended}, declared.jobs.MendJob.{MendJob}}
 
 -- There is a legal list of events over a live database: one mend by each job, and one write of each that was asked for, which took the SCN
 -- that is told. The other database is the one that they leave.

@@ -1,11 +1,8 @@
 -- The blocks that a BLOCKRECOVER names.
-use Rattle.std.specs.Prelude.{◌≡◌, Option, None}
-use Rattle.std.specs.Option.{option_and_then, option_map}
-use Rattle.rm_base.specs.declared.refusal.Refusal.{Refusal}
-use Rattle.rm_base.specs.declared.refusal.Refusal.TheVariants.{Rm18}
+use Rattle.std.specs.{Prelude.{◌≡◌, Option, None}, Option.{option_and_then, option_map}}
+use Rattle.rm_base.specs.declared.refusal.Refusal.{Refusal, TheVariants.{Rm18}}
 use Rattle.rm_lang_statement.specs.declared.command.RepairForm.{RepairForm}
-use Rattle.rm_machine.specs.BlockRecoverRefusal.{absent_named, sound_named}
-use Rattle.rm_machine.specs.declared.state.State.{State}
+use Rattle.rm_machine.specs.{BlockRecoverRefusal.{absent_named, sound_named}, declared.state.State.{State}}
 
 -- all that it names is there
 abbrev pub AreThere : State → RepairForm → Type 0

@@ -1,21 +1,12 @@
 -- What is at hand tells of blocks.
 use Rattle.std.specs.Prelude.{◌≡◌, Option, IfSome, List}
-use Rattle.rm_base.specs.Store.{Held}
-use Rattle.rm_base.specs.declared.block.BlockId.{BlockId}
-use Rattle.rm_base.specs.declared.refusal.Refusal.{Refusal}
-use Rattle.rm_base.specs.declared.refusal.Refusal.TheVariants.{Rm08}
-use Rattle.rm_evidence.specs.declared.evidence.Evidence.{Evidence}
-use Rattle.rm_evidence.specs.Known.{FitsTree, known_of}
+use Rattle.rm_base.specs.{Store.{Held}, declared.{block.BlockId.{BlockId}, refusal.Refusal.{Refusal, TheVariants.{Rm08}}}}
+use Rattle.rm_evidence.specs.{Known.{FitsTree, known_of}, declared.evidence.Evidence.{Evidence}}
 use Rattle.rm_history.specs.FirstGap.{IsTarget}
-use Rattle.rm_plan.specs.declared.plan.Gap.{Gap}
-use Rattle.rm_plan.specs.Blocks.{NamesFirstOf}
-use Rattle.rm_repair.specs.declared.jobs.MendJob.{MendJob}
-use Rattle.rm_repair.specs.Jobs.{AreMendJobs}
-use Rattle.rm_report.specs.declared.line.Line.{Line}
-use Rattle.rm_report.specs.declared.line.Line.TheVariants as line
-use Rattle.rm_machine.specs.Recovery.{IsAtHand}
-use Rattle.rm_machine.specs.declared.state.State.{State}
-use Rattle.rm_machine.specs.State.{current_of, now_of, tree, world}
+use Rattle.rm_plan.specs.{Blocks.{NamesFirstOf}, declared.plan.Gap.{Gap}}
+use Rattle.rm_repair.specs.{Jobs.{AreMendJobs}, declared.jobs.MendJob.{MendJob}}
+use Rattle.rm_report.specs.declared.line.Line.{Line, TheVariants as line}
+use Rattle.rm_machine.specs.{Recovery.{IsAtHand}, State.{current_of, now_of, tree, world}, declared.state.State.{State}}
 use Rattle.rm_step_repair.specs.declared.telling.Told.{Told}
 
 -- it is a block of a datafile that exists at `now`

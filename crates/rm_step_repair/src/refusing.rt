@@ -1,8 +1,6 @@
 //! Why BLOCKRECOVER is refused by the state.
-ghost use Rattle.std.specs.Prelude.{◌≡◌, None, find, nat_le};
-ghost use Rattle.std.specs.Option.{option_and_then};
-ghost use Rattle.rm_machine.specs.Asked.{asked};
-ghost use Rattle.rm_machine.specs.BackupRefusal.{absent_of};
+ghost use Rattle.std.specs.{Prelude.{◌≡◌, None, find, nat_le}, Option.{option_and_then}};
+ghost use Rattle.rm_machine.specs.{Asked.{asked}, BackupRefusal.{absent_of}};
 ghost use Rattle.rm_machine.specs.BlockRecoverRefusal.{absent_named, lost_named, repair_damage_refusal, repair_lost_refusal, repair_refusal, repair_room_refusal, sound_named};
 ghost use Rattle.rm_machine.specs.Sound.{IsSound};
 ghost use Rattle.rm_step_repair.specs.Named.{AreThere, sound_refusal};

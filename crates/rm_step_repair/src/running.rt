@@ -1,12 +1,8 @@
 //! The running database, which is live while its blocks are mended.
 ghost use Rattle.std.specs.Prelude.{◌≤◌, All, IfOk, OnOk, length};
-ghost use Rattle.rm_channel.specs.Jobs.{lists};
-ghost use Rattle.rm_channel.specs.Room.{AreThreads, CanWrite};
+ghost use Rattle.rm_channel.specs.{Jobs.{lists}, Room.{AreThreads, CanWrite}};
 ghost use Rattle.rm_live.specs.Parts.{IsNumbered, IsSound as IsSoundLive, parts_of};
-ghost use Rattle.rm_machine.specs.Events.{opening};
-ghost use Rattle.rm_machine.specs.Running.{CanFollow};
-ghost use Rattle.rm_machine.specs.Sound.{IsSound};
-ghost use Rattle.rm_machine.specs.State.{now_of};
+ghost use Rattle.rm_machine.specs.{Events.{opening}, Running.{CanFollow}, Sound.{IsSound}, State.{now_of}};
 ghost use Rattle.rm_catalog_typed.specs.Changes.{EditsFollow};
 ghost use Rattle.rm_repair.specs.Mended.{HasBlock, IsOlder};
 ghost use Rattle.rm_step_repair.specs.Gone.{HasGone, HasRepaired};

@@ -1,7 +1,6 @@
 //! What is at hand tells of blocks.
 ghost use Rattle.std.specs.Prelude.{◌≡◌, ◌≤◌, All, IfErr, IfOk, IsErrOf};
-ghost use Rattle.rm_base.specs.Outside.{Rose};
-ghost use Rattle.rm_base.specs.declared.refusal.Refusal.TheVariants.{Rm08};
+ghost use Rattle.rm_base.specs.{Outside.{Rose}, declared.refusal.Refusal.TheVariants.{Rm08}};
 ghost use Rattle.rm_machine.specs.Sound.{IsSound};
 ghost use Rattle.rm_report.specs.Reply.{HasDate};
 ghost use Rattle.rm_step_repair.specs.Told.{IsTargetNow, IsTold, NamesGap};

@@ -2,17 +2,11 @@
 use Rattle.std.proofs.Common.{◌≡◌, ◌∙◌, ℕ, List, ap, sym, subst}
 use Rattle.rm_base.specs.declared.kinds.Policy.{Policy}
 use Rattle.rm_catalog.specs.declared.record.Record.{Record}
-use Rattle.rm_evidence.specs.declared.evidence.Evidence.{Evidence}
-use Rattle.rm_evidence.specs.declared.evidence.InPlace.{InPlace}
-use Rattle.rm_evidence.specs.Place.{FitsPlace}
+use Rattle.rm_evidence.specs.{Place.{FitsPlace}, declared.evidence.{Evidence.{Evidence}, InPlace.{InPlace}}}
 use Rattle.rm_catalog_typed.specs.TypedCatalog.{records_of}
 use Rattle.rm_retain.specs.Catalogued.{by_records}
-use Rattle.rm_machine.specs.Obsolete.{retention_of, start_by}
-use Rattle.rm_machine.specs.Recovery.{in_place}
-use Rattle.rm_machine.specs.Sound.{IsSound}
-use Rattle.rm_machine.specs.declared.state.State.{State}
-use Rattle.rm_machine.specs.State.{ledger}
-use Rattle.rm_machine.proofs.Fitting.{place-fits}
+use Rattle.rm_machine.specs.{Obsolete.{retention_of, start_by}, Recovery.{in_place}, Sound.{IsSound}, State.{ledger}}
+use Rattle.rm_machine.{specs.declared.state.State.{State}, proofs.Fitting.{place-fits}}
 
 module _ (s : State) (rs : List Record) (records : rs ≡ records_of s.catalog) where
   pub fits : IsSound s → (place : InPlace) → place ≡ in_place s → FitsPlace rs place

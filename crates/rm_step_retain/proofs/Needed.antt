@@ -1,28 +1,18 @@
 -- Which datafiles need a backup.
-use Rattle.std.proofs.Common.{◌≡◌, ◌<◌, ◌↔◌, ◌+◌, ◌-◌, ◌∙◌, ℕ, List, [], ◌∷◌, ◌++◌, Option, Some, None, IsTrue, Bool, true, cond, ap, sym, subst, arith, length, map, max}
 use Rattle.std.specs.Prelude.{IfSome, option_and_then}
+use Rattle.std.proofs.Common.{◌≡◌, ◌<◌, ◌↔◌, ◌+◌, ◌-◌, ◌∙◌, ℕ, List, [], ◌∷◌, ◌++◌, Option, Some, None, IsTrue, Bool, true, cond, ap, sym, subst, arith, length, map, max}
 use Rattle.std.proofs.lemmas.Option.{slice_get_within}
 use Rattle.rm_apply.specs.Files.{AreExactly}
 use Rattle.rm_base.specs.Store.{Held}
 use Rattle.rm_evidence.specs.declared.evidence.Evidence.{Evidence}
-use Rattle.rm_history.specs.declared.world.Datafile.{Datafile}
-use Rattle.rm_history.specs.declared.world.World.{World}
-use Rattle.rm_history.specs.Tree.{end_of}
-use Rattle.rm_history.specs.World.{exists, file_of}
+use Rattle.rm_history.specs.{Tree.{end_of}, World.{exists, file_of}, declared.world.{Datafile.{Datafile}, World.{World}}}
 use Rattle.rm_history.proofs.Worlds.{file-there}
-use Rattle.rm_report.specs.declared.line.Line.{Line}
-use Rattle.rm_report.specs.declared.line.Line.TheVariants as line
-use Rattle.rm_retain.specs.Chosen.{chosen, wanted}
-use Rattle.rm_retain.specs.Obsolete.{IsOnPath}
+use Rattle.rm_report.specs.declared.line.Line.{Line, TheVariants as line}
+use Rattle.rm_retain.specs.{Chosen.{chosen, wanted}, Obsolete.{IsOnPath}}
 use Rattle.rm_lang_statement.specs.declared.command.Command.TheVariants.{ReportNeedBackup}
-use Rattle.rm_machine.specs.Effect.{told}
-use Rattle.rm_machine.specs.Hands.{Tells}
-use Rattle.rm_machine.specs.Obsolete.{NeedsBackup, retention_of}
-use Rattle.rm_machine.specs.Recovery.{IsAtHand}
-use Rattle.rm_machine.specs.declared.state.State.{State}
-use Rattle.rm_machine.specs.State.{current_of, ledger, now_of, on_path, world}
+use Rattle.rm_machine.specs.{Effect.{told}, Hands.{Tells}, Obsolete.{NeedsBackup, retention_of}, Recovery.{IsAtHand}}
+use Rattle.rm_machine.{specs.{State.{current_of, ledger, now_of, on_path, world}, declared.state.State.{State}}, proofs.Tracked.{on-path}}
 use Rattle.rm_catalog_typed.proofs.Records.{world-told}
-use Rattle.rm_machine.proofs.Tracked.{on-path}
 
 module _ (s : State) (e : Evidence) where
   abbrev by_state : World → ℕ → Datafile → Bool

@@ -1,23 +1,14 @@
 -- The ids of the obsolete records.
-use Rattle.std.proofs.Common.{◌≡◌, ◌≤◌, ◌<◌, ◌^◌, ◌∙◌, ℕ, List, Option, Some, All, AllPairs, Contains, refl, ap, length, subst}
 use Rattle.std.specs.Prelude.{IfSome}
+use Rattle.std.proofs.Common.{◌≡◌, ◌≤◌, ◌<◌, ◌^◌, ◌∙◌, ℕ, List, Option, Some, All, AllPairs, Contains, refl, ap, length, subst}
 use Rattle.std.proofs.lemmas.Option.{IfSome_then}
-use Rattle.rm_base.specs.Store.{Held}
-use Rattle.rm_base.specs.declared.kinds.Policy.{Policy}
-use Rattle.rm_catalog.specs.declared.record.Record.{Record}
-use Rattle.rm_catalog.specs.declared.record.Record.TheVariants.{Log, Piece, Set}
-use Rattle.rm_catalog.specs.Keys.{key_of}
-use Rattle.rm_evidence.specs.declared.evidence.Evidence.{Evidence}
-use Rattle.rm_evidence.specs.Names.{object_id}
+use Rattle.rm_base.specs.{Store.{Held}, declared.kinds.Policy.{Policy}}
+use Rattle.rm_catalog.specs.{Keys.{key_of}, declared.record.Record.{Record, TheVariants.{Log, Piece, Set}}}
+use Rattle.rm_evidence.specs.{Names.{object_id}, declared.evidence.Evidence.{Evidence}}
 use Rattle.rm_catalog_typed.specs.TypedCatalog.{records_of}
-use Rattle.rm_retain.specs.Catalogued.{AreObsolete, IsObsoleteRecord, by_records}
-use Rattle.rm_retain.specs.Chosen.{Retention}
-use Rattle.rm_machine.specs.Obsolete.{AreObsoleteIn, retention_of, start_by}
-use Rattle.rm_machine.specs.Recovery.{IsAtHand}
-use Rattle.rm_machine.specs.Sound.{IsSound}
-use Rattle.rm_machine.specs.declared.state.State.{State}
-use Rattle.rm_machine.specs.State.{ledger}
-use Rattle.rm_machine.proofs.Ids.{few-ids, row-id, some-ids, IsId}
+use Rattle.rm_retain.specs.{Catalogued.{AreObsolete, IsObsoleteRecord, by_records}, Chosen.{Retention}}
+use Rattle.rm_machine.specs.{Obsolete.{AreObsoleteIn, retention_of, start_by}, Recovery.{IsAtHand}, Sound.{IsSound}, State.{ledger}}
+use Rattle.rm_machine.{specs.declared.state.State.{State}, proofs.Ids.{few-ids, row-id, some-ids, IsId}}
 use Rattle.rm_step_retain.proofs.Hand.{of-state}
 
 -- only a record of an object is obsolete

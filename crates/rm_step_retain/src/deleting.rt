@@ -1,10 +1,7 @@
 //! DELETE OBSOLETE
-ghost use Rattle.std.specs.Prelude.{◌≡◌, ◌≤◌, All, IfOk, IsErrOf, OnOk};
-ghost use Rattle.std.specs.List.{flat_map};
+ghost use Rattle.std.specs.{Prelude.{◌≡◌, ◌≤◌, All, IfOk, IsErrOf, OnOk}, List.{flat_map}};
 ghost use Rattle.rm_base.specs.Outside.{Rose};
-ghost use Rattle.rm_machine.specs.Hands.{Hands};
-ghost use Rattle.rm_machine.specs.Sound.{IsSound};
-ghost use Rattle.rm_machine.specs.Upkeep.{names_at};
+ghost use Rattle.rm_machine.specs.{Hands.{Hands}, Sound.{IsSound}, Upkeep.{names_at}};
 ghost use Rattle.rm_report.specs.Reply.{IsPlain};
 ghost use Rattle.rm_catalog_typed.specs.Changes.{EditsFollow};
 ghost use Rattle.rm_lang_statement.specs.declared.command.Command.TheVariants.{DeleteObsolete};

@@ -1,8 +1,7 @@
 //! Which records the policy does not need, by what is at hand.
 ghost use Rattle.std.specs.Prelude.{◌≡◌, ◌≤◌, ◌<◌, ◌^◌, All, IfOk, IfSome, IsErrOf, length};
 ghost use Rattle.rm_base.specs.Outside.{Rose};
-ghost use Rattle.rm_machine.specs.Obsolete.{AreObsoleteIn};
-ghost use Rattle.rm_machine.specs.Sound.{IsSound};
+ghost use Rattle.rm_machine.specs.{Obsolete.{AreObsoleteIn}, Sound.{IsSound}};
 
 use crate::looking::{look, start_by};
 use rm_base::Store;

@@ -1,12 +1,9 @@
 //! What the policy goes by: the records, what is at hand of them, and where its window starts.
 ghost use Rattle.std.specs.Prelude.{◌≡◌, ◌≤◌, IfOk, IfSome, IsErrOf};
 ghost use Rattle.rm_base.specs.Outside.{Rose};
-ghost use Rattle.rm_machine.specs.Obsolete.{start_by};
-ghost use Rattle.rm_machine.specs.Recovery.{IsAtHand};
-ghost use Rattle.rm_machine.specs.Sound.{IsSound};
+ghost use Rattle.rm_machine.specs.{Obsolete.{start_by}, Recovery.{IsAtHand}, Sound.{IsSound}};
 ghost use Rattle.rm_catalog_typed.specs.TypedCatalog.{records_of};
-ghost use Rattle.rm_retain.specs.Catalogued.{copies_in};
-ghost use Rattle.rm_retain.specs.Chosen.{Ascend};
+ghost use Rattle.rm_retain.specs.{Catalogued.{copies_in}, Chosen.{Ascend}};
 
 use rm_base::{Policy, Scn, Store};
 use rm_catalog::Catalog as Records;

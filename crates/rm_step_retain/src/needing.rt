@@ -2,15 +2,10 @@
 ghost use Rattle.std.specs.Prelude.{◌≡◌, ◌≤◌, ◌<◌, ◌↔◌, ◌^◌, ◌++◌, ◌∷◌, [], All, IfOk, IsErrOf, IsTrue, length, map, max};
 ghost use Rattle.rm_apply.specs.Files.{AreExactly};
 ghost use Rattle.rm_base.specs.Outside.{Rose};
-ghost use Rattle.rm_machine.specs.Hands.{Tells};
-ghost use Rattle.rm_machine.specs.Obsolete.{NeedsBackup as Needs, retention_of};
-ghost use Rattle.rm_machine.specs.Sound.{IsSound};
-ghost use Rattle.rm_machine.specs.State.{ledger};
-ghost use Rattle.rm_report.specs.Reply.{IsPlain};
-ghost use Rattle.rm_report.specs.declared.line.Line.TheVariants.{NeedsBackup, NeedCount};
+ghost use Rattle.rm_machine.specs.{Hands.{Tells}, Obsolete.{NeedsBackup as Needs, retention_of}, Sound.{IsSound}, State.{ledger}};
+ghost use Rattle.rm_report.specs.{Reply.{IsPlain}, declared.line.Line.TheVariants.{NeedsBackup, NeedCount}};
 ghost use Rattle.rm_catalog_typed.specs.TypedCatalog.{records_of};
-ghost use Rattle.rm_retain.specs.Catalogued.{copies_in};
-ghost use Rattle.rm_retain.specs.Chosen.{Ascend, chosen, wanted};
+ghost use Rattle.rm_retain.specs.{Catalogued.{copies_in}, Chosen.{Ascend, chosen, wanted}};
 ghost use Rattle.rm_lang_statement.specs.declared.command.Command.TheVariants.{ReportNeedBackup};
 
 use crate::looking::{Looked, look, start_by};

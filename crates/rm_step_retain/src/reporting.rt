@@ -1,10 +1,8 @@
 //! REPORT OBSOLETE
 ghost use Rattle.std.specs.Prelude.{◌≡◌, ◌≤◌, ◌<◌, ◌^◌, ◌++◌, ◌∷◌, [], All, IfOk, IsErrOf, length, map};
 ghost use Rattle.rm_base.specs.Outside.{Rose};
-ghost use Rattle.rm_machine.specs.Hands.{Tells};
-ghost use Rattle.rm_machine.specs.Sound.{IsSound};
-ghost use Rattle.rm_report.specs.Reply.{IsPlain};
-ghost use Rattle.rm_report.specs.declared.line.Line.TheVariants.{Obsolete, ObsoleteCount};
+ghost use Rattle.rm_machine.specs.{Hands.{Tells}, Sound.{IsSound}};
+ghost use Rattle.rm_report.specs.{Reply.{IsPlain}, declared.line.Line.TheVariants.{Obsolete, ObsoleteCount}};
 ghost use Rattle.rm_lang_statement.specs.declared.command.Command.TheVariants.{ReportObsolete};
 
 use crate::finding::obsolete_ids;

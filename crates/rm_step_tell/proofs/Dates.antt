@@ -3,13 +3,8 @@ use Rattle.std.proofs.Common.{◌≡◌, ◌+◌, ◌++◌, ℕ, List, [], ◌�
 use Rattle.std.proofs.lemmas.List.Elements.{All-cons, All-contains, All-map, All-nil, Contains-append_left, Contains-get_or}
 use Rattle.rm_base.specs.declared.block.BlockId.{BlockId}
 use Rattle.rm_history.specs.declared.world.Datafile.{Datafile}
-use Rattle.rm_report.specs.Reply.{IsPlain}
-use Rattle.rm_report.specs.declared.line.Line.{Line}
-use Rattle.rm_report.specs.declared.line.Line.TheVariants.{BlockDamaged, Schema}
-use Rattle.rm_machine.specs.Corrupt.{damage_lines}
-use Rattle.rm_machine.specs.Shown.{place_of, schema_lines}
-use Rattle.rm_machine.specs.State.{ledger}
-use Rattle.rm_machine.specs.declared.state.State.{State}
+use Rattle.rm_report.specs.{Reply.{IsPlain}, declared.line.Line.{Line, TheVariants.{BlockDamaged, Schema}}}
+use Rattle.rm_machine.specs.{Corrupt.{damage_lines}, Shown.{place_of, schema_lines}, State.{ledger}, declared.state.State.{State}}
 
 schema-dated : (s : State) (f : ℕ) (ds : List Datafile) → All IsPlain (schema_lines s f ds)
 schema-dated s f [] = All-nil IsPlain

@@ -1,14 +1,9 @@
 -- The row that DUMP tells, where it was not refused.
 use Rattle.std.proofs.Common.{◌≡◌, nat_le, ℕ, Some, None, cond, is_none}
-use Rattle.rm_base.specs.declared.refusal.Refusal.TheVariants.{Rm05, Rm09, Rm17}
-use Rattle.rm_base.specs.declared.refusal.Absent.TheVariants.{File, Block}
+use Rattle.rm_base.specs.declared.refusal.{Refusal.TheVariants.{Rm05, Rm09, Rm17}, Absent.TheVariants.{File, Block}}
 use Rattle.rm_base.proofs.Conditions.{unless}
-use Rattle.rm_machine.specs.Damage.{has_block}
-use Rattle.rm_machine.specs.Dump.{dump_refusal, row_refusal}
-use Rattle.rm_machine.specs.Sound.{IsSound}
-use Rattle.rm_machine.specs.declared.state.State.{State}
-use Rattle.rm_machine.specs.State.{on_path, placed}
-use Rattle.rm_machine.proofs.PlacedRows.{HasRow, has-row, there-by}
+use Rattle.rm_machine.specs.{Damage.{has_block}, Dump.{dump_refusal, row_refusal}, Sound.{IsSound}, State.{on_path, placed}}
+use Rattle.rm_machine.{specs.declared.state.State.{State}, proofs.PlacedRows.{HasRow, has-row, there-by}}
 
 pub row-told : (s : State) (f b : ℕ) → IsSound s → dump_refusal s f b ≡ None → HasRow s f b
 row-told s f b sound is =

@@ -1,26 +1,14 @@
 -- The list of a class: the lines of each record of it, by ascending ids.
+use Rattle.std.specs.{List.{flat_map}, Option.{option_map}}
 use Rattle.std.proofs.Common.{◌≡◌, ◌∙◌, ℕ, List, [], ◌∷◌, Option, Some, All, Contains, refl, ap, sym, subst}
-use Rattle.std.specs.List.{flat_map}
-use Rattle.std.specs.Option.{option_map}
-use Rattle.std.proofs.lemmas.List.Elements.{All-append, All-cons, All-map, All-nil}
-use Rattle.std.proofs.lemmas.Option.{same_Some}
-use Rattle.rm_base.proofs.Members.{behind, in-front}
-use Rattle.rm_base.specs.declared.kinds.Class.{Class}
-use Rattle.rm_catalog.specs.declared.record.Record.{Record}
-use Rattle.rm_catalog.specs.declared.record.Record.TheVariants.{Log, Piece, Set}
-use Rattle.rm_evidence.specs.Gathered.{Lists}
-use Rattle.rm_evidence.specs.Names.{object_id}
-use Rattle.rm_evidence.proofs.Single.{IsOfOne}
-use Rattle.rm_report.specs.Reply.{IsPlain}
-use Rattle.rm_report.specs.declared.line.Line.{Line}
+use Rattle.std.proofs.lemmas.{List.Elements.{All-append, All-cons, All-map, All-nil}, Option.{same_Some}}
+use Rattle.rm_base.{specs.declared.kinds.Class.{Class}, proofs.Members.{behind, in-front}}
+use Rattle.rm_catalog.specs.declared.record.Record.{Record, TheVariants.{Log, Piece, Set}}
+use Rattle.rm_evidence.{specs.{Gathered.{Lists}, Names.{object_id}}, proofs.Single.{IsOfOne}}
+use Rattle.rm_report.specs.{Reply.{IsPlain}, declared.line.Line.{Line}}
 use Rattle.rm_catalog_typed.specs.TypedCatalog.{records_of}
-use Rattle.rm_verify.specs.Classes.{is_of}
-use Rattle.rm_verify.specs.Told.{Tells}
-use Rattle.rm_verify.proofs.Checked.{passed}
-use Rattle.rm_verify.proofs.Growing.{one-told, told-of-one}
-use Rattle.rm_machine.specs.Effect.{told}
-use Rattle.rm_machine.specs.Lists.{IsListed, IsListOutcome, lines_in, listed, part_line}
-use Rattle.rm_machine.specs.declared.state.State.{State}
+use Rattle.rm_verify.{specs.{Classes.{is_of}, Told.{Tells}}, proofs.{Checked.{passed}, Growing.{one-told, told-of-one}}}
+use Rattle.rm_machine.specs.{Effect.{told}, Lists.{IsListed, IsListOutcome, lines_in, listed, part_line}, declared.state.State.{State}}
 
 -- a record and its lines
 abbrev pub Lines : Type 0

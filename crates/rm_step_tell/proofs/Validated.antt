@@ -1,26 +1,14 @@
 -- What is told of the records whose objects can't be used.
-use Rattle.std.proofs.Common.{◌≡◌, ◌∙◌, ◌<◌, ◌≤◌, ◌^◌, ◌++◌, ℕ, List, [], ◌∷◌, Option, All, length, map, ap, sym, subst, arith}
 use Rattle.std.specs.Prelude.{IfSome}
+use Rattle.std.proofs.Common.{◌≡◌, ◌∙◌, ◌<◌, ◌≤◌, ◌^◌, ◌++◌, ℕ, List, [], ◌∷◌, Option, All, length, map, ap, sym, subst, arith}
 use Rattle.std.proofs.lemmas.List.Elements.{All-append, All-cons, All-contains, All-map, All-nil}
-use Rattle.rm_base.specs.Store.{Held}
-use Rattle.rm_base.specs.declared.kinds.Bad.{Bad}
-use Rattle.rm_catalog.specs.declared.record.LogEntry.{LogEntry}
-use Rattle.rm_catalog.specs.declared.record.PieceEntry.{PieceEntry}
-use Rattle.rm_catalog.specs.declared.record.Record.{Record}
-use Rattle.rm_catalog.specs.declared.record.SetEntry.{SetEntry}
-use Rattle.rm_evidence.specs.Available.{IsSkipped, a_log, a_piece, a_set}
-use Rattle.rm_evidence.specs.Gathered.{Lists}
-use Rattle.rm_report.specs.Reply.{IsPlain}
-use Rattle.rm_report.specs.declared.line.Line.{Line}
-use Rattle.rm_report.specs.declared.line.Line.TheVariants.{BadOf, Checked}
-use Rattle.rm_catalog_typed.specs.TypedCatalog.{records_of}
-use Rattle.rm_catalog_typed.proofs.Members.{log-in, piece-in, set-in}
+use Rattle.rm_base.specs.{Store.{Held}, declared.kinds.Bad.{Bad}}
+use Rattle.rm_catalog.specs.declared.record.{LogEntry.{LogEntry}, PieceEntry.{PieceEntry}, Record.{Record}, SetEntry.{SetEntry}}
+use Rattle.rm_evidence.specs.{Available.{IsSkipped, a_log, a_piece, a_set}, Gathered.{Lists}}
+use Rattle.rm_report.specs.{Reply.{IsPlain}, declared.line.Line.{Line, TheVariants.{BadOf, Checked}}}
+use Rattle.rm_catalog_typed.{specs.TypedCatalog.{records_of}, proofs.Members.{log-in, piece-in, set-in}}
 use Rattle.rm_lang_statement.specs.declared.command.Command.TheVariants.{ValidateAll}
-use Rattle.rm_machine.specs.Effect.{told}
-use Rattle.rm_machine.specs.Hands.{Tells}
-use Rattle.rm_machine.specs.Sound.{IsSound}
-use Rattle.rm_machine.specs.State.{ledger}
-use Rattle.rm_machine.specs.Validate.{count_available}
+use Rattle.rm_machine.specs.{Effect.{told}, Hands.{Tells}, Sound.{IsSound}, State.{ledger}, Validate.{count_available}}
 use Rattle.rm_machine.specs.declared.state.State.{State}
 use Rattle.rm_step_tell.proofs.Few.{few}
 

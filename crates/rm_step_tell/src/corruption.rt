@@ -1,7 +1,6 @@
 //! LIST CORRUPTION
 ghost use Rattle.std.specs.Prelude.{All, IfOk};
-ghost use Rattle.rm_machine.specs.Corrupt.{IsCorruptionOutcome};
-ghost use Rattle.rm_machine.specs.Effect.{told};
+ghost use Rattle.rm_machine.specs.{Corrupt.{IsCorruptionOutcome}, Effect.{told}};
 ghost use Rattle.rm_report.specs.Reply.{IsPlain};
 
 use rm_base::{NoMemory, Seq};

@@ -2,9 +2,7 @@
 ghost use Rattle.std.specs.Prelude.{◌≡◌, IfOk, Option, None};
 ghost use Rattle.rm_base.specs.Store.{Held};
 ghost use Rattle.rm_lang_statement.specs.declared.command.Command.TheVariants.{Dump};
-ghost use Rattle.rm_machine.specs.Dump.{dump_refusal};
-ghost use Rattle.rm_machine.specs.Hands.{Tells};
-ghost use Rattle.rm_machine.specs.Sound.{IsSound};
+ghost use Rattle.rm_machine.specs.{Dump.{dump_refusal}, Hands.{Tells}, Sound.{IsSound}};
 
 use rm_base::{Absent, BlockNo, FileNo, NoMemory, Refusal, Seq};
 use rm_machine::State;

@@ -3,8 +3,7 @@ ghost use Rattle.std.specs.Prelude.{◌≡◌, ◌++◌, ◌∷◌, [], IfOk, On
 ghost use Rattle.rm_base.specs.Store.{Held};
 ghost use Rattle.rm_lang_statement.specs.declared.command.Command.TheVariants.{ListIncarnation};
 ghost use Rattle.rm_history.specs.Tree.{IsThere};
-ghost use Rattle.rm_machine.specs.Hands.{Tells};
-ghost use Rattle.rm_machine.specs.ListIncarnation.{incarnation_line, incarnation_lines};
+ghost use Rattle.rm_machine.specs.{Hands.{Tells}, ListIncarnation.{incarnation_line, incarnation_lines}};
 
 use rm_base::{IncNo, NoMemory, Seq};
 use rm_history::Tree;

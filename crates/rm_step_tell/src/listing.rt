@@ -1,13 +1,9 @@
 //! LIST BACKUP, LIST COPY and LIST ARCHIVELOG ALL
-ghost use Rattle.std.specs.Prelude.{◌≡◌, ◌++◌, ◌∷◌, [], All, IfOk, List, OnOk, Some, map};
-ghost use Rattle.std.specs.List.{flat_map};
+ghost use Rattle.std.specs.{Prelude.{◌≡◌, ◌++◌, ◌∷◌, [], All, IfOk, List, OnOk, Some, map}, List.{flat_map}};
 ghost use Rattle.rm_evidence.specs.Gathered.{Lists};
-ghost use Rattle.rm_machine.specs.Effect.{told};
-ghost use Rattle.rm_machine.specs.Lists.{IsListOutcome, IsListed, listed, lines_in, part_line};
-ghost use Rattle.rm_machine.specs.Sound.{IsSound};
+ghost use Rattle.rm_machine.specs.{Effect.{told}, Lists.{IsListOutcome, IsListed, listed, lines_in, part_line}, Sound.{IsSound}};
 ghost use Rattle.rm_catalog.specs.declared.record.Record.TheVariants.{Log as OfLog, Piece as OfPiece};
-ghost use Rattle.rm_report.specs.Reply.{IsPlain};
-ghost use Rattle.rm_report.specs.declared.line.Line.{Line as LineOf};
+ghost use Rattle.rm_report.specs.{Reply.{IsPlain}, declared.line.Line.{Line as LineOf}};
 
 use rm_base::{Class, NoMemory, Seq};
 use rm_catalog::{Catalog, LogEntry, PieceEntry, Record, SetEntry, SetPart};

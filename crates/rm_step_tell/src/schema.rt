@@ -1,11 +1,7 @@
 //! REPORT SCHEMA
 ghost use Rattle.std.specs.Prelude.{◌≡◌, ◌<◌, All, IfOk};
-ghost use Rattle.rm_machine.specs.Effect.{told};
-ghost use Rattle.rm_machine.specs.Shown.{IsSchemaOutcome, place_of, stands_at};
-ghost use Rattle.rm_machine.specs.Sound.{IsSound};
-ghost use Rattle.rm_machine.specs.State.{counted, placed};
-ghost use Rattle.rm_report.specs.Reply.{IsPlain};
-ghost use Rattle.rm_report.specs.declared.line.Line.TheVariants.{Schema};
+ghost use Rattle.rm_machine.specs.{Effect.{told}, Shown.{IsSchemaOutcome, place_of, stands_at}, Sound.{IsSound}, State.{counted, placed}};
+ghost use Rattle.rm_report.specs.{Reply.{IsPlain}, declared.line.Line.TheVariants.{Schema}};
 
 use rm_base::{FileNo, NoMemory, Scn, Seq};
 use rm_blocks::DataFile;

@@ -1,7 +1,6 @@
 //! SHOW ALL
 ghost use Rattle.std.specs.Prelude.{All, IfOk};
-ghost use Rattle.rm_machine.specs.Effect.{told};
-ghost use Rattle.rm_machine.specs.Shown.{IsShowOutcome};
+ghost use Rattle.rm_machine.specs.{Effect.{told}, Shown.{IsShowOutcome}};
 ghost use Rattle.rm_report.specs.Reply.{IsPlain};
 
 use rm_base::{NoMemory, Seq};

@@ -2,12 +2,8 @@
 ghost use Rattle.std.specs.Prelude.{◌≡◌, ◌<◌, ◌≤◌, ◌^◌, All, IfOk, IsErrOf, length, map};
 ghost use Rattle.rm_base.specs.Outside.{Rose};
 ghost use Rattle.rm_lang_statement.specs.declared.command.Command.TheVariants.{ValidateAll};
-ghost use Rattle.rm_machine.specs.Hands.{Tells};
-ghost use Rattle.rm_machine.specs.Sound.{IsSound};
-ghost use Rattle.rm_machine.specs.State.{ledger};
-ghost use Rattle.rm_machine.specs.Validate.{count_available, is_available};
-ghost use Rattle.rm_report.specs.Reply.{IsPlain};
-ghost use Rattle.rm_report.specs.declared.line.Line.TheVariants.{BadOf};
+ghost use Rattle.rm_machine.specs.{Hands.{Tells}, Sound.{IsSound}, State.{ledger}, Validate.{count_available, is_available}};
+ghost use Rattle.rm_report.specs.{Reply.{IsPlain}, declared.line.Line.TheVariants.{BadOf}};
 
 use rm_base::{Bad, NoMemory, Seq, Status, Store};
 use rm_evidence::EvidenceFault;

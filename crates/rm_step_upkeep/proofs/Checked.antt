@@ -1,28 +1,17 @@
 -- What a crosscheck hands out.
-use Rattle.std.proofs.Common.{◌≡◌, ◌∙◌, ◌<◌, ◌+◌, ◌++◌, ℕ, List, [], ◌∷◌, Option, Some, None, refl, ap, sym, subst, drop, get_or, length, map, take, All}
 use Rattle.std.specs.Prelude.{IfSome}
-use Rattle.std.proofs.lemmas.List.{at_drop_more, map_more}
-use Rattle.std.proofs.lemmas.List.Elements.{All-cons, All-nil}
-use Rattle.std.proofs.lemmas.Option.{same_Some}
-use Rattle.rm_base.specs.Store.{Held}
-use Rattle.rm_base.specs.declared.kinds.Class.{Class}
-use Rattle.rm_base.specs.declared.kinds.Status.{Status}
+use Rattle.std.proofs.Common.{◌≡◌, ◌∙◌, ◌<◌, ◌+◌, ◌++◌, ℕ, List, [], ◌∷◌, Option, Some, None, refl, ap, sym, subst, drop, get_or, length, map, take, All}
+use Rattle.std.proofs.lemmas.{List.{at_drop_more, map_more, Elements.{All-cons, All-nil}}, Option.{same_Some}}
+use Rattle.rm_base.specs.{Store.{Held}, declared.kinds.{Class.{Class}, Status.{Status}}}
 use Rattle.rm_catalog.specs.declared.record.Record.{Record}
 use Rattle.rm_evidence.specs.Gathered.{Lists}
-use Rattle.rm_report.specs.Reply.{IsPlain}
-use Rattle.rm_report.specs.declared.line.Line.{Line}
+use Rattle.rm_report.specs.{Reply.{IsPlain}, declared.line.Line.{Line}}
 use Rattle.rm_catalog_typed.specs.TypedCatalog.{records_of}
 use Rattle.rm_lang_statement.specs.declared.command.Command.TheVariants.{Crosscheck}
 use Rattle.rm_verify.specs.Crosscheck.{IsChecked, stands_in}
-use Rattle.rm_machine.specs.Effect.{no_effect}
-use Rattle.rm_machine.specs.Hands.{Hands}
-use Rattle.rm_machine.specs.Upkeep.{with_catalog, with_statuses}
-use Rattle.rm_machine.specs.declared.handed.Handed.{Handed}
-use Rattle.rm_machine.specs.declared.state.State.{State}
-use Rattle.rm_machine.proofs.Handing.{hands-by}
-use Rattle.rm_step_upkeep.specs.Amended.{amended}
-use Rattle.rm_step_upkeep.specs.Lines.{status_line}
-use Rattle.rm_step_upkeep.specs.declared.amending.Amendment.TheVariants as by
+use Rattle.rm_machine.specs.{Effect.{no_effect}, Hands.{Hands}, Upkeep.{with_catalog, with_statuses}, declared.handed.Handed.{Handed}}
+use Rattle.rm_machine.{specs.declared.state.State.{State}, proofs.Handing.{hands-by}}
+use Rattle.rm_step_upkeep.specs.{Amended.{amended}, Lines.{status_line}, declared.amending.Amendment.TheVariants as by}
 
 -- none of its lines is a refusal
 dated : (xs : List (ℕ × Status)) → All IsPlain (map status_line xs)

@@ -2,19 +2,11 @@
 use Rattle.std.proofs.Common.{◌≡◌, ◌∙◌, ◌==◌, inl, inr, ℕ, List, Some, None, Bool, refl, sym, subst, find, Contains}
 use Rattle.std.proofs.lemmas.Option.{same_Some}
 use Rattle.rm_base.proofs.Lists.{find_cases}
-use Rattle.rm_catalog.specs.declared.record.LogEntry.{LogEntry}
-use Rattle.rm_catalog.specs.declared.record.PieceEntry.{PieceEntry}
-use Rattle.rm_catalog.specs.declared.record.SetEntry.{SetEntry}
-use Rattle.rm_catalog_typed.specs.Facts.{IsTypedCatalog}
-use Rattle.rm_catalog_typed.specs.Fitting.{FitsLog, FitsPiece, FitsSet}
-use Rattle.rm_catalog_typed.specs.TypedCatalog.{TypedCatalog}
-use Rattle.rm_machine.specs.Sound.{IsSound}
-use Rattle.rm_machine.specs.Upkeep.{log_changed, piece_changed, set_changed, with_catalog}
-use Rattle.rm_machine.specs.declared.state.State.{State}
+use Rattle.rm_catalog.specs.declared.record.{LogEntry.{LogEntry}, PieceEntry.{PieceEntry}, SetEntry.{SetEntry}}
+use Rattle.rm_catalog_typed.specs.{Facts.{IsTypedCatalog}, Fitting.{FitsLog, FitsPiece, FitsSet}, TypedCatalog.{TypedCatalog}}
+use Rattle.rm_machine.specs.{Sound.{IsSound}, Upkeep.{log_changed, piece_changed, set_changed, with_catalog}, declared.state.State.{State}}
 use Rattle.rm_machine.proofs.Entries.{LogAs, PieceAs, SetAs, log-as-fits, log-on, piece-as-fits, piece-on, set-as-fits, set-on}
-use Rattle.rm_step_upkeep.specs.Amended.{log_by, piece_by, set_by}
-use Rattle.rm_step_upkeep.specs.declared.amending.Amendment.{Amendment}
-use Rattle.rm_step_upkeep.specs.declared.amending.Amendment.TheVariants as by
+use Rattle.rm_step_upkeep.specs.{Amended.{log_by, piece_by, set_by}, declared.amending.Amendment.{Amendment, TheVariants as by}}
 
 -- only its status and its keep change
 pub log-by-as : (a : Amendment) → LogAs (log_by a)

@@ -1,16 +1,10 @@
 -- The record of an id, where there is one.
 use Rattle.std.proofs.Common.{◌≡◌, ◌<◌, ◌==◌, ◌&&◌, inl, inr, ℕ, Some, None, Bool, true, false, is_none, cond, refl, subst, arith}
 use Rattle.std.proofs.lemmas.Bool.{cases_Bool, eqb-true}
-use Rattle.rm_base.specs.declared.refusal.Refusal.{Refusal}
-use Rattle.rm_base.proofs.Lists.{find_cases}
-use Rattle.rm_catalog.specs.declared.record.LogEntry.{LogEntry}
-use Rattle.rm_catalog.specs.declared.record.PieceEntry.{PieceEntry}
-use Rattle.rm_catalog.specs.declared.record.SetEntry.{SetEntry}
-use Rattle.rm_catalog_typed.specs.Facts.{IsTypedCatalog}
-use Rattle.rm_catalog_typed.specs.TypedCatalog.{TypedCatalog}
-use Rattle.rm_machine.specs.Marks.{lacks_ids}
-use Rattle.rm_machine.specs.Upkeep.{is_unknown, record_refusal}
-use Rattle.rm_machine.specs.declared.state.State.{State}
+use Rattle.rm_base.{specs.declared.refusal.Refusal.{Refusal}, proofs.Lists.{find_cases}}
+use Rattle.rm_catalog.specs.declared.record.{LogEntry.{LogEntry}, PieceEntry.{PieceEntry}, SetEntry.{SetEntry}}
+use Rattle.rm_catalog_typed.specs.{Facts.{IsTypedCatalog}, TypedCatalog.{TypedCatalog}}
+use Rattle.rm_machine.specs.{Marks.{lacks_ids}, Upkeep.{is_unknown, record_refusal}, declared.state.State.{State}}
 use Rattle.rm_machine.proofs.Ids.{IsId, log-id, piece-id, set-id}
 
 module _ (r : TypedCatalog) (rules : IsTypedCatalog r) where

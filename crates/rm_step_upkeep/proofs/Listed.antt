@@ -1,37 +1,20 @@
 -- The expired records of a class are listed by their ids.
-use Rattle.std.proofs.Common.{◌≡◌, ◌<◌, ◌∙◌, ◌++◌, ℕ, List, [], ◌∷◌, Option, Some, None, cond, refl, ap, sym, subst, arith, length, map, AllPairs, Contains}
 use Rattle.std.specs.Option.{option_and_then}
-use Rattle.std.proofs.lemmas.List.{get_or-map, length-map}
-use Rattle.std.proofs.lemmas.Option.{same_Some}
-use Rattle.rm_base.specs.Store.{Held}
-use Rattle.rm_base.specs.declared.kinds.Class.{Class}
-use Rattle.rm_base.specs.declared.kinds.Status.{Status}
-use Rattle.rm_base.specs.declared.kinds.Status.TheVariants.{Available, Expired, Unavailable}
-use Rattle.rm_base.proofs.Lists.{map_from, map_to}
-use Rattle.rm_base.proofs.Members.{in-front}
+use Rattle.std.proofs.Common.{◌≡◌, ◌<◌, ◌∙◌, ◌++◌, ℕ, List, [], ◌∷◌, Option, Some, None, cond, refl, ap, sym, subst, arith, length, map, AllPairs, Contains}
+use Rattle.std.proofs.lemmas.{List.{get_or-map, length-map}, Option.{same_Some}}
+use Rattle.rm_base.specs.{Store.{Held}, declared.kinds.{Class.{Class}, Status.{Status, TheVariants.{Available, Expired, Unavailable}}}}
+use Rattle.rm_base.proofs.{Lists.{map_from, map_to}, Members.{in-front}}
 use Rattle.rm_apply.specs.Files.{AreExactly}
 use Rattle.rm_catalog.specs.declared.record.Record.{Record}
-use Rattle.rm_evidence.specs.Gathered.{Lists}
-use Rattle.rm_evidence.specs.Names.{object_id}
-use Rattle.rm_evidence.proofs.Extending.{only-in}
-use Rattle.rm_evidence.proofs.Single.{IsOfOne}
+use Rattle.rm_evidence.{specs.{Gathered.{Lists}, Names.{object_id}}, proofs.{Extending.{only-in}, Single.{IsOfOne}}}
 use Rattle.rm_report.specs.declared.line.Line.TheVariants.{Deleted, DeletedCount}
-use Rattle.rm_catalog_typed.specs.Facts.{IsTypedCatalog}
-use Rattle.rm_catalog_typed.specs.TypedCatalog.{TypedCatalog, records_of}
+use Rattle.rm_catalog_typed.specs.{Facts.{IsTypedCatalog}, TypedCatalog.{TypedCatalog, records_of}}
 use Rattle.rm_lang_statement.specs.declared.command.Command.TheVariants.{DeleteExpired}
-use Rattle.rm_verify.specs.declared.object.Expected.{Expected}
-use Rattle.rm_verify.specs.Classes.{is_of, object_in}
-use Rattle.rm_verify.specs.Told.{Tells}
+use Rattle.rm_verify.specs.{Classes.{is_of, object_in}, Told.{Tells}, declared.object.Expected.{Expected}}
 use Rattle.rm_verify.proofs.Checked.{numbered, passed}
-use Rattle.rm_machine.specs.Effect.{no_effect}
-use Rattle.rm_machine.specs.Hands.{Hands}
-use Rattle.rm_machine.specs.Sound.{IsSound}
-use Rattle.rm_machine.specs.Upkeep.{IsExpired, with_catalog, without_all}
-use Rattle.rm_machine.specs.declared.handed.Handed.{Handed}
-use Rattle.rm_machine.specs.declared.state.State.{State}
-use Rattle.rm_machine.proofs.Handing.{hands-by}
+use Rattle.rm_machine.specs.{Effect.{no_effect}, Hands.{Hands}, Sound.{IsSound}, Upkeep.{IsExpired, with_catalog, without_all}}
+use Rattle.rm_machine.{specs.declared.{handed.Handed.{Handed}, state.State.{State}}, proofs.{Handing.{hands-by}, Ids.{row-id, IsId}}}
 use Rattle.rm_step_upkeep.specs.Expired.{Alone, expired, when_expired}
-use Rattle.rm_machine.proofs.Ids.{row-id, IsId}
 
 -- an id is told of what is expired alone
 of_expired : (n : ℕ) (st : Status) (y : ℕ × Alone) → when_expired n st ≡ Some y → (st ≡ Expired) × (n ≡ y.0)

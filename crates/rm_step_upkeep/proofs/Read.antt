@@ -1,44 +1,24 @@
 -- What is read of a name and of the object under it is exact.
+use Rattle.std.specs.{Prelude.{IfSome}, Fmt.{decimal}, List.{after_first, position_or_len}}
 use Rattle.std.proofs.Common.{◌≡◌, ◌≢◌, ◌∙◌, ◌<◌, ◌≤◌, ◌++◌, ◌^◌, inl, inr, ℕ, Bool, true, false, List, refl, ap, sym, subst, arith, codes, eqb, length, length-append, max, lit≤, Option, Some, None, ◌-◌}
-use Rattle.std.specs.Prelude.{IfSome}
-use Rattle.std.specs.Fmt.{decimal}
-use Rattle.std.specs.List.{after_first, position_or_len}
-use Rattle.std.proofs.lemmas.List.{length-set}
-use Rattle.std.proofs.lemmas.Option.{same_Some}
+use Rattle.std.proofs.lemmas.{List.{length-set}, Option.{same_Some}}
 use Rattle.sha2.specs.Sha256.{sha256}
-use Rattle.rm_base.specs.Store.{Held}
-use Rattle.rm_base.specs.declared.kinds.Kind.{Kind}
-use Rattle.rm_base.specs.declared.kinds.Kind.TheVariants.{Full, Level0, Level1, Place}
+use Rattle.rm_base.specs.{Store.{Held}, declared.kinds.Kind.{Kind, TheVariants.{Full, Level0, Level1, Place}}}
 use Rattle.rm_base.proofs.Sealing.{length-sealed}
-use Rattle.rm_catalog.specs.declared.record.PieceEntry.{PieceEntry}
-use Rattle.rm_catalog.specs.Objects.{FitsKind as IsOfKind, FitsRows}
-use Rattle.rm_evidence.proofs.Names.{log-name-tells, log-no-piece, piece-name-tells}
-use Rattle.rm_evidence.specs.Objects.{piece_entry}
-use Rattle.rm_history.proofs.Ends.{IsThere-with_end, end_of-with_end, owner-with_end, reset_of-with_end}
-use Rattle.rm_history.proofs.Highs.{high-least}
-use Rattle.rm_history.specs.Tree.{IsThere, end_of, parent_of, reset_of, with_end}
-use Rattle.rm_history.specs.declared.tree.Incarnation.{Incarnation}
+use Rattle.rm_catalog.specs.{Objects.{FitsKind as IsOfKind, FitsRows}, declared.record.PieceEntry.{PieceEntry}}
+use Rattle.rm_evidence.{specs.Objects.{piece_entry}, proofs.Names.{log-name-tells, log-no-piece, piece-name-tells}}
+use Rattle.rm_history.specs.{Tree.{IsThere, end_of, parent_of, reset_of, with_end}, declared.tree.Incarnation.{Incarnation}}
 use Rattle.rm_history.specs.declared.world.Datafile.{Datafile}
+use Rattle.rm_history.proofs.{Ends.{IsThere-with_end, end_of-with_end, owner-with_end, reset_of-with_end}, Highs.{high-least}}
 use Rattle.rm_machine.specs.CatalogName.{Found, IsFound, IsNamed, Obeys, artefact_of, found_log, found_piece, id_of, name_of}
-use Rattle.rm_machine.specs.Saved.{spelling_of}
-use Rattle.rm_machine.specs.State.{ledger, tree}
-use Rattle.rm_machine.specs.SwitchLogfile.{log_entry}
-use Rattle.rm_machine.specs.declared.state.State.{State}
-use Rattle.rm_piece.specs.declared.piece.Piece.{Piece}
-use Rattle.rm_piece.specs.Spelling.{body_of as piece_body, spelling as piece_spelling}
-use Rattle.rm_piece.specs.Valid.{FitsKind, IsPiece}
-use Rattle.rm_piece.proofs.Bodies.{length-body as length-piece}
-use Rattle.rm_piece.proofs.Fitting.{few_rows, fits as piece-fits, spelling_same as same-piece}
-use Rattle.rm_piece.proofs.Highs.{count_fits}
-use Rattle.rm_redo.specs.declared.log_file.LogFile.{LogFile}
-use Rattle.rm_redo.specs.LogFormat.{IsLogFile, body_of as log_body, spelling as log_spelling}
-use Rattle.rm_redo.proofs.LogBodies.{length-body as length-log}
-use Rattle.rm_redo.proofs.LogFitting.{fits as log-fits, spelling_same as same-log}
+use Rattle.rm_machine.specs.{Saved.{spelling_of}, State.{ledger, tree}, SwitchLogfile.{log_entry}, declared.state.State.{State}}
+use Rattle.rm_piece.specs.{Spelling.{body_of as piece_body, spelling as piece_spelling}, Valid.{FitsKind, IsPiece}}
+use Rattle.rm_piece.{specs.declared.piece.Piece.{Piece}, proofs.Bodies.{length-body as length-piece}}
+use Rattle.rm_piece.proofs.{Fitting.{few_rows, fits as piece-fits, spelling_same as same-piece}, Highs.{count_fits}}
+use Rattle.rm_redo.specs.{LogFormat.{IsLogFile, body_of as log_body, spelling as log_spelling}, declared.log_file.LogFile.{LogFile}}
+use Rattle.rm_redo.proofs.{LogBodies.{length-body as length-log}, LogFitting.{fits as log-fits, spelling_same as same-log}}
 use Rattle.rm_step_upkeep.specs.Catalogued.{Finds, IsBackup, IsEntryOf, IsLogHere, IsOf, IsPieceHere, IsReadAs, ReadsAs, id_in, name_by, named_of}
-use Rattle.rm_step_upkeep.specs.declared.finding.Entry.{Entry}
-use Rattle.rm_step_upkeep.specs.declared.finding.Entry.TheVariants as entry
-use Rattle.rm_step_upkeep.specs.declared.naming.Named.{Named}
-use Rattle.rm_step_upkeep.specs.declared.naming.Named.TheVariants as named
+use Rattle.rm_step_upkeep.specs.declared.{finding.Entry.{Entry, TheVariants as entry}, naming.Named.{Named, TheVariants as named}}
 
 -- What a name tells
 

@@ -1,30 +1,17 @@
 -- What is catalogued is recorded, and what is handed out is what the statement comes to.
-use Rattle.std.proofs.Common.{◌≡◌, ◌≤◌, ◌<◌, ◌+◌, ◌∙◌, [], ◌∷◌, inl, inr, ℕ, List, Bool, true, false, cond, arith, Option, Some, None, refl, ap, sym, subst}
 use Rattle.std.specs.Option.{option_map_or}
+use Rattle.std.proofs.Common.{◌≡◌, ◌≤◌, ◌<◌, ◌+◌, ◌∙◌, [], ◌∷◌, inl, inr, ℕ, List, Bool, true, false, cond, arith, Option, Some, None, refl, ap, sym, subst}
 use Rattle.std.proofs.lemmas.Bool.{le-ltb}
-use Rattle.rm_base.specs.Store.{Held}
-use Rattle.rm_base.specs.declared.refusal.Limit.TheVariants.{ObjectIds}
-use Rattle.rm_base.specs.declared.refusal.Refusal.{Refusal}
-use Rattle.rm_base.specs.declared.refusal.Refusal.TheVariants.{Rm11, Rm13}
+use Rattle.rm_base.specs.{Store.{Held}, declared.refusal.{Limit.TheVariants.{ObjectIds}, Refusal.{Refusal, TheVariants.{Rm11, Rm13}}}}
 use Rattle.rm_base.proofs.Conditions.{unless}
 use Rattle.rm_lang_statement.specs.declared.command.Command.TheVariants.{CatalogName}
 use Rattle.rm_machine.specs.CatalogName.{Found, IsFound, IsNamed, an_id, catalog_by, catalog_refusal, catalogued, catalogues, cataloguing, found_log, found_piece, id_of as id_found, ids_up_to, lacks_ids_behind, name_of, no_id}
-use Rattle.rm_machine.specs.Effect.{Outcome, refused}
-use Rattle.rm_machine.specs.Hands.{Hands, Refuses}
-use Rattle.rm_machine.specs.Marks.{lacks_bytes, lacks_ids, lacks_room}
-use Rattle.rm_machine.specs.Sound.{IsSound}
-use Rattle.rm_machine.specs.Upkeep.{is_unknown, with_catalog}
-use Rattle.rm_machine.specs.declared.handed.Handed.{Handed}
-use Rattle.rm_machine.specs.State.{ledger}
-use Rattle.rm_machine.specs.declared.state.State.{State}
-use Rattle.rm_machine.proofs.Cataloguing.{FitsFound, found-fits, sound-catalogued}
-use Rattle.rm_machine.proofs.Handing.{hands-by}
-use Rattle.rm_machine.proofs.Switching.{not-above}
+use Rattle.rm_machine.specs.{Effect.{Outcome, refused}, Hands.{Hands, Refuses}, Marks.{lacks_bytes, lacks_ids, lacks_room}, Sound.{IsSound}}
+use Rattle.rm_machine.specs.{Upkeep.{is_unknown, with_catalog}, State.{ledger}, declared.{handed.Handed.{Handed}, state.State.{State}}}
+use Rattle.rm_machine.proofs.{Cataloguing.{FitsFound, found-fits, sound-catalogued}, Handing.{hands-by}, Switching.{not-above}}
 use Rattle.rm_report.specs.declared.line.Line.TheVariants.{Catalogued}
 use Rattle.rm_step_upkeep.specs.Catalogued.{CanBeRecorded, Finds, IsFoundAs, IsOf, entry_of, id_in, id_of, recorded, refusal_by, room_refusal, size_of}
-use Rattle.rm_step_upkeep.specs.declared.finding.Entry.{Entry}
-use Rattle.rm_step_upkeep.specs.declared.naming.Named.{Named}
-use Rattle.rm_step_upkeep.proofs.Read.{of-named}
+use Rattle.rm_step_upkeep.{specs.declared.{finding.Entry.{Entry}, naming.Named.{Named}}, proofs.Read.{of-named}}
 
 -- the name of what is found tells its id
 named-by : (name : List ℕ) (x : Found) → name ≡ name_of x → (1 ≤ id_found x) × (id_found x < 4294967295) → IsNamed name (id_found x)

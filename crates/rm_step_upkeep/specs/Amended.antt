@@ -1,12 +1,9 @@
 -- What a statement changes of the record of a log, a piece or a set.
 use Rattle.std.specs.Prelude.{ℕ}
-use Rattle.rm_catalog.specs.declared.record.LogEntry.{LogEntry}
-use Rattle.rm_catalog.specs.declared.record.PieceEntry.{PieceEntry}
-use Rattle.rm_catalog.specs.declared.record.SetEntry.{SetEntry}
+use Rattle.rm_catalog.specs.declared.record.{LogEntry.{LogEntry}, PieceEntry.{PieceEntry}, SetEntry.{SetEntry}}
 use Rattle.rm_machine.specs.Upkeep.{log_changed, piece_changed, set_changed}
 use Rattle.rm_catalog_typed.specs.TypedCatalog.{TypedCatalog}
-use Rattle.rm_step_upkeep.specs.declared.amending.Amendment.{Amendment}
-use Rattle.rm_step_upkeep.specs.declared.amending.Amendment.TheVariants.{Keep, Status}
+use Rattle.rm_step_upkeep.specs.declared.amending.Amendment.{Amendment, TheVariants.{Keep, Status}}
 
 -- the log, changed so
 abbrev pub log_by : Amendment → LogEntry → LogEntry

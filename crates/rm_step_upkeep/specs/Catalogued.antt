@@ -1,34 +1,18 @@
 -- What is read of a name and of the object under it, and the record that it gets.
 use Rattle.std.specs.Prelude.{ℕ, ◌≡◌, ◌+◌, ◌-◌, ◌<◌, ◌≤◌, max, if◌then◌else◌, Bool, false, Option, Some, None, List, codes, slice_get}
-use Rattle.rm_base.specs.Numbers.{last_scn}
-use Rattle.rm_base.specs.Store.{Held}
-use Rattle.rm_base.specs.declared.kinds.Kind.{Kind}
-use Rattle.rm_base.specs.declared.kinds.Kind.TheVariants.{Full, Level0, Level1, Place}
-use Rattle.rm_base.specs.declared.refusal.Limit.TheVariants.{Records, Bytes, ObjectIds}
-use Rattle.rm_base.specs.declared.refusal.Refusal.{Refusal}
-use Rattle.rm_base.specs.declared.refusal.Refusal.TheVariants.{Rm11, Rm13}
+use Rattle.rm_base.specs.{Numbers.{last_scn}, Store.{Held}, declared.kinds.Kind.{Kind, TheVariants.{Full, Level0, Level1, Place}}}
+use Rattle.rm_base.specs.declared.refusal.{Limit.TheVariants.{Records, Bytes, ObjectIds}, Refusal.{Refusal, TheVariants.{Rm11, Rm13}}}
 use Rattle.rm_catalog.specs.declared.record.BaseEntry.{BaseEntry}
-use Rattle.rm_catalog_typed.specs.Changes.{with_base, with_end_at, with_log, with_piece}
-use Rattle.rm_catalog_typed.specs.Fitting.{FitsBase, FitsLog, FitsPiece}
+use Rattle.rm_catalog_typed.specs.{Changes.{with_base, with_end_at, with_log, with_piece}, Fitting.{FitsBase, FitsLog, FitsPiece}}
 use Rattle.rm_catalog_typed.specs.TypedCatalog.{TypedCatalog}
-use Rattle.rm_evidence.specs.Names.{log_name, piece_name}
-use Rattle.rm_evidence.specs.Objects.{piece_entry}
-use Rattle.rm_history.specs.Tree.{IsThere, end_of, owner, reset_of}
-use Rattle.rm_history.specs.declared.world.Datafile.{Datafile}
+use Rattle.rm_evidence.specs.{Names.{log_name, piece_name}, Objects.{piece_entry}}
+use Rattle.rm_history.specs.{Tree.{IsThere, end_of, owner, reset_of}, declared.world.Datafile.{Datafile}}
 use Rattle.rm_machine.specs.CatalogName.{Found, IsFound, Obeys, artefact_of, dbid_of, found_log, found_piece, ids_up_to, lacks_ids_behind}
-use Rattle.rm_machine.specs.Machine.{IsValidArtefact}
-use Rattle.rm_machine.specs.Marks.{lacks_bytes, lacks_room}
-use Rattle.rm_machine.specs.Saved.{spelling_of}
-use Rattle.rm_machine.specs.State.{ledger, tree}
-use Rattle.rm_machine.specs.SwitchLogfile.{log_entry}
-use Rattle.rm_machine.specs.Upkeep.{is_unknown}
-use Rattle.rm_machine.specs.declared.state.State.{State}
+use Rattle.rm_machine.specs.{Machine.{IsValidArtefact}, Marks.{lacks_bytes, lacks_room}, Saved.{spelling_of}, State.{ledger, tree}}
+use Rattle.rm_machine.specs.{SwitchLogfile.{log_entry}, Upkeep.{is_unknown}, declared.state.State.{State}}
 use Rattle.rm_piece.specs.declared.piece.Piece.{Piece}
 use Rattle.rm_redo.specs.declared.log_file.LogFile.{LogFile}
-use Rattle.rm_step_upkeep.specs.declared.finding.Entry.{Entry}
-use Rattle.rm_step_upkeep.specs.declared.finding.Entry.TheVariants as entry
-use Rattle.rm_step_upkeep.specs.declared.naming.Named.{Named}
-use Rattle.rm_step_upkeep.specs.declared.naming.Named.TheVariants as named
+use Rattle.rm_step_upkeep.specs.declared.{finding.Entry.{Entry, TheVariants as entry}, naming.Named.{Named, TheVariants as named}}
 
 -- What a name is of
 

@@ -1,9 +1,6 @@
 -- The expired records of a class, by their ids.
-use Rattle.std.specs.Prelude.{ℕ, if◌then◌else◌, Option, Some, None}
-use Rattle.std.specs.Option.{option_and_then}
-use Rattle.rm_base.specs.declared.kinds.Class.{Class}
-use Rattle.rm_base.specs.declared.kinds.Status.{Status}
-use Rattle.rm_base.specs.declared.kinds.Status.TheVariants.{Expired}
+use Rattle.std.specs.{Prelude.{ℕ, if◌then◌else◌, Option, Some, None}, Option.{option_and_then}}
+use Rattle.rm_base.specs.declared.kinds.{Class.{Class}, Status.{Status, TheVariants.{Expired}}}
 use Rattle.rm_catalog.specs.declared.record.Record.{Record}
 use Rattle.rm_verify.specs.Classes.{is_of, object_in}
 

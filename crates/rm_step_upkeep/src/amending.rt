@@ -1,7 +1,6 @@
 //! The record of a log, a piece or a set gets another status, or is kept forever or not.
 ghost use Rattle.std.specs.Prelude.{◌≡◌, OnOk};
-ghost use Rattle.rm_machine.specs.Sound.{IsSound};
-ghost use Rattle.rm_machine.specs.Upkeep.{log_changed, piece_changed, set_changed, with_catalog};
+ghost use Rattle.rm_machine.specs.{Sound.{IsSound}, Upkeep.{log_changed, piece_changed, set_changed, with_catalog}};
 ghost use Rattle.rm_catalog_typed.specs.Changes.{EditsFollow};
 ghost use Rattle.rm_step_upkeep.specs.Amended.{amended, log_by, piece_by, set_by};
 

@@ -1,19 +1,12 @@
 //! CATALOG 'name'
 ghost use Rattle.std.specs.Prelude.{◌≡◌, ◌≤◌, All, IfErr, IfOk, IsErrOf, None, OnOk, false};
-ghost use Rattle.rm_base.specs.Numbers.{last_scn};
-ghost use Rattle.rm_base.specs.Outside.{Rose};
+ghost use Rattle.rm_base.specs.{Numbers.{last_scn}, Outside.{Rose}};
 ghost use Rattle.rm_commit.specs.declared.commit.Stop.TheVariants.{KeeperFault, StoreFault};
-ghost use Rattle.rm_catalog_typed.specs.Changes.{EditsFollow};
-ghost use Rattle.rm_catalog_typed.specs.Fitting.{FitsBase};
+ghost use Rattle.rm_catalog_typed.specs.{Changes.{EditsFollow}, Fitting.{FitsBase}};
 ghost use Rattle.rm_history.specs.Tree.{IsThere};
 ghost use Rattle.rm_lang_statement.specs.declared.command.Command.TheVariants.{CatalogName};
-ghost use Rattle.rm_machine.specs.CatalogName.{catalog_by, ids_up_to, lacks_ids_behind};
-ghost use Rattle.rm_machine.specs.Effect.{refused};
-ghost use Rattle.rm_machine.specs.Hands.{Hands, Refuses};
-ghost use Rattle.rm_machine.specs.Marks.{lacks_ids};
-ghost use Rattle.rm_machine.specs.Sound.{IsSound};
-ghost use Rattle.rm_machine.specs.State.{tree};
-ghost use Rattle.rm_machine.specs.Upkeep.{with_catalog};
+ghost use Rattle.rm_machine.specs.{CatalogName.{catalog_by, ids_up_to, lacks_ids_behind}, Effect.{refused}, Hands.{Hands, Refuses}};
+ghost use Rattle.rm_machine.specs.{Marks.{lacks_ids}, Sound.{IsSound}, State.{tree}, Upkeep.{with_catalog}};
 ghost use Rattle.rm_report.specs.Reply.{HasDate, IsPlain};
 ghost use Rattle.rm_step_upkeep.specs.Catalogued.{CanBeRecorded, base_by, end_by, inc_of, raised_by, recorded, refusal_by, room_refusal};
 

@@ -3,9 +3,7 @@ ghost use Rattle.std.specs.Prelude.{◌≡◌, ◌≤◌, All, IfOk, IsErrOf, On
 ghost use Rattle.rm_base.specs.Outside.{Rose};
 ghost use Rattle.rm_report.specs.Reply.{IsPlain};
 ghost use Rattle.rm_lang_statement.specs.declared.command.Command.TheVariants.{Crosscheck};
-ghost use Rattle.rm_machine.specs.Hands.{Hands};
-ghost use Rattle.rm_machine.specs.Sound.{IsSound};
-ghost use Rattle.rm_machine.specs.Upkeep.{with_catalog, with_statuses};
+ghost use Rattle.rm_machine.specs.{Hands.{Hands}, Sound.{IsSound}, Upkeep.{with_catalog, with_statuses}};
 ghost use Rattle.rm_catalog_typed.specs.Changes.{EditsFollow};
 ghost use Rattle.rm_step_upkeep.specs.Lines.{status_line};
 

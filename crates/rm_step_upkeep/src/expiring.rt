@@ -4,9 +4,7 @@ ghost use Rattle.rm_apply.specs.Files.{AreExactly};
 ghost use Rattle.rm_base.specs.Store.{Held};
 ghost use Rattle.rm_evidence.specs.Gathered.{Lists};
 ghost use Rattle.rm_lang_statement.specs.declared.command.Command.TheVariants.{DeleteExpired};
-ghost use Rattle.rm_machine.specs.Hands.{Hands};
-ghost use Rattle.rm_machine.specs.Sound.{IsSound};
-ghost use Rattle.rm_machine.specs.Upkeep.{IsExpired};
+ghost use Rattle.rm_machine.specs.{Hands.{Hands}, Sound.{IsSound}, Upkeep.{IsExpired}};
 ghost use Rattle.rm_catalog_typed.specs.Changes.{EditsFollow};
 ghost use Rattle.rm_step_upkeep.specs.Expired.{Alone, expired, when_expired};
 

@@ -1,10 +1,7 @@
 //! CONFIGURE DEVICE TYPE DISK PARALLELISM
 ghost use Rattle.std.specs.Prelude.{◌≡◌, ◌≤◌, IfOk, None, OnOk, Option};
 ghost use Rattle.rm_base.specs.Store.{Held};
-ghost use Rattle.rm_machine.specs.Configure.{parallelism_refusal, with_channels};
-ghost use Rattle.rm_machine.specs.Hands.{Hands};
-ghost use Rattle.rm_machine.specs.Sound.{IsSound};
-ghost use Rattle.rm_machine.specs.Step.{IsStatement};
+ghost use Rattle.rm_machine.specs.{Configure.{parallelism_refusal, with_channels}, Hands.{Hands}, Sound.{IsSound}, Step.{IsStatement}};
 ghost use Rattle.rm_machine.specs.Upkeep.{with_catalog};
 ghost use Rattle.rm_catalog_typed.specs.Changes.{EditsFollow};
 ghost use Rattle.rm_lang_statement.specs.declared.command.Command.TheVariants.{Parallelism};

@@ -1,7 +1,6 @@
 //! Why a statement on a record is refused.
 ghost use Rattle.std.specs.Prelude.{◌≡◌, ◌≤◌, None};
-ghost use Rattle.rm_machine.specs.Sound.{IsSound};
-ghost use Rattle.rm_machine.specs.Upkeep.{is_unknown, record_refusal};
+ghost use Rattle.rm_machine.specs.{Sound.{IsSound}, Upkeep.{is_unknown, record_refusal}};
 
 use rm_base::{Limit, Refusal, Unknown};
 use rm_machine::State;

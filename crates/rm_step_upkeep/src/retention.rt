@@ -2,14 +2,10 @@
 ghost use Rattle.std.specs.Prelude.{◌≡◌, IfOk, None, OnOk, Option, true};
 ghost use Rattle.rm_base.specs.Store.{Held};
 ghost use Rattle.rm_catalog.specs.Facts.{IsPolicy};
-ghost use Rattle.rm_machine.specs.Configure.{policy_of, policy_refusal, retention_refusal, with_policy};
-ghost use Rattle.rm_machine.specs.Hands.{Hands};
-ghost use Rattle.rm_machine.specs.Sound.{IsSound};
-ghost use Rattle.rm_machine.specs.Step.{IsStatement};
-ghost use Rattle.rm_machine.specs.Upkeep.{with_catalog};
+ghost use Rattle.rm_machine.specs.{Configure.{policy_of, policy_refusal, retention_refusal, with_policy}, Hands.{Hands}, Sound.{IsSound}};
+ghost use Rattle.rm_machine.specs.{Step.{IsStatement}, Upkeep.{with_catalog}};
 ghost use Rattle.rm_catalog_typed.specs.Changes.{EditsFollow};
-ghost use Rattle.rm_lang_statement.specs.IsCommand.{is_retention};
-ghost use Rattle.rm_lang_statement.specs.declared.command.Command.TheVariants.{Retention};
+ghost use Rattle.rm_lang_statement.specs.{IsCommand.{is_retention}, declared.command.Command.TheVariants.{Retention}};
 
 use rm_base::{Limit, NoMemory, Policy, Refusal};
 use rm_catalog::{BaseEntry, Edit};

@@ -1,11 +1,7 @@
 //! ALTER DATABASE (ENABLE | DISABLE) BLOCK CHANGE TRACKING
 ghost use Rattle.std.specs.Prelude.{◌≡◌, IfOk, None, OnOk, Option};
 ghost use Rattle.rm_base.specs.Store.{Held};
-ghost use Rattle.rm_machine.specs.Hands.{Hands};
-ghost use Rattle.rm_machine.specs.Marks.{ids_refusal};
-ghost use Rattle.rm_machine.specs.Sound.{IsSound};
-ghost use Rattle.rm_machine.specs.Tracking.{with_setting};
-ghost use Rattle.rm_machine.specs.Upkeep.{with_catalog};
+ghost use Rattle.rm_machine.specs.{Hands.{Hands}, Marks.{ids_refusal}, Sound.{IsSound}, Tracking.{with_setting}, Upkeep.{with_catalog}};
 ghost use Rattle.rm_catalog_typed.specs.Changes.{EditsFollow};
 ghost use Rattle.rm_lang_statement.specs.declared.command.Command.TheVariants.{Tracking};
 

@@ -1,28 +1,15 @@
 -- What is known where WRITE was not refused.
-use Rattle.std.proofs.Common.{◌≡◌, ◌∙◌, ◌<◌, ◌≤◌, ◌-◌, ℕ, Option, Some, None, true, false, refl, sym, subst, arith, All, Contains, slice_get}
 use Rattle.std.specs.Prelude.{IfSome}
-use Rattle.std.proofs.lemmas.List.Elements.{All-contains_itself, All-weaker}
-use Rattle.std.proofs.lemmas.Option.{slice_get_within}
-use Rattle.rm_base.specs.Numbers.{last_scn}
-use Rattle.rm_base.specs.declared.block.Change.{Change}
-use Rattle.rm_base.specs.declared.block.Row.{Row}
-use Rattle.rm_base.proofs.Slots.{all-get, get-index}
+use Rattle.std.proofs.Common.{◌≡◌, ◌∙◌, ◌<◌, ◌≤◌, ◌-◌, ℕ, Option, Some, None, true, false, refl, sym, subst, arith, All, Contains, slice_get}
+use Rattle.std.proofs.lemmas.{List.Elements.{All-contains_itself, All-weaker}, Option.{slice_get_within}}
+use Rattle.rm_base.{specs.{Numbers.{last_scn}, declared.block.{Change.{Change}, Row.{Row}}}, proofs.Slots.{all-get, get-index}}
 use Rattle.rm_blocks.specs.File.{File}
 use Rattle.rm_lang_statement.specs.declared.command.WriteForm.{WriteForm}
-use Rattle.rm_history.proofs.Highs.{high-above}
-use Rattle.rm_history.proofs.Worlds.{file-there}
-use Rattle.rm_catalog_typed.specs.LedgerFacts.{IsCreated}
-use Rattle.rm_catalog_typed.proofs.Lookups.{item-at}
-use Rattle.rm_redo.specs.LogFormat.{IsLogRecord}
-use Rattle.rm_redo.specs.Logs.{Logs}
-use Rattle.rm_redo.specs.Online.{IsLost, IsThread, first_of, thread_records}
-use Rattle.rm_machine.specs.Sound.{IsPlaced, IsSound}
-use Rattle.rm_machine.specs.declared.state.State.{State}
-use Rattle.rm_machine.specs.State.{now_of, placed, redo_end, tree, world}
-use Rattle.rm_machine.specs.Write.{change_of, write_refusal}
-use Rattle.rm_machine.proofs.Further.{redo-now}
-use Rattle.rm_machine.proofs.Places.{counted-open}
-use Rattle.rm_machine.proofs.Writes.{write-accepted}
+use Rattle.rm_history.proofs.{Highs.{high-above}, Worlds.{file-there}}
+use Rattle.rm_catalog_typed.{specs.LedgerFacts.{IsCreated}, proofs.Lookups.{item-at}}
+use Rattle.rm_redo.specs.{LogFormat.{IsLogRecord}, Logs.{Logs}, Online.{IsLost, IsThread, first_of, thread_records}}
+use Rattle.rm_machine.specs.{Sound.{IsPlaced, IsSound}, State.{now_of, placed, redo_end, tree, world}, Write.{change_of, write_refusal}}
+use Rattle.rm_machine.{specs.declared.state.State.{State}, proofs.{Further.{redo-now}, Places.{counted-open}, Writes.{write-accepted}}}
 
 -- its numbers are those of a thread, a datafile and a block that can be
 pub record AreNumbers (w : WriteForm) : Type 0 where

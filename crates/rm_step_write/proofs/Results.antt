@@ -1,22 +1,15 @@
 -- The states that the statements leave, put together from their parts.
-use Rattle.std.proofs.Common.{◌≡◌, ◌+◌, ◌-◌, ◌∙◌, ℕ, Bool, cond, List, Option, Some, None, [], ◌∷◌, ◌++◌, ap, slice_index_or, slice_set}
 use Rattle.std.specs.Option.{option_map}
+use Rattle.std.proofs.Common.{◌≡◌, ◌+◌, ◌-◌, ◌∙◌, ℕ, Bool, cond, List, Option, Some, None, [], ◌∷◌, ◌++◌, ap, slice_index_or, slice_set}
 use Rattle.rm_base.specs.declared.block.Change.{Change}
 use Rattle.rm_blocks.specs.File.{File, created, written}
 use Rattle.rm_history.specs.declared.world.Datafile.{Datafile}
 use Rattle.rm_lang_statement.specs.declared.command.WriteForm.{WriteForm}
-use Rattle.rm_redo.specs.Logs.{Logs}
-use Rattle.rm_redo.specs.Online.{with_change}
+use Rattle.rm_redo.specs.{Logs.{Logs}, Online.{with_change}}
 use Rattle.rm_track.specs.Bitmaps.{Tracked, fresh, mark_at, with_file as with_tracked}
-use Rattle.rm_catalog_typed.specs.Changes.{with_file}
-use Rattle.rm_catalog_typed.specs.TypedCatalog.{TypedCatalog}
-use Rattle.rm_machine.specs.CreateDatafile.{new_datafile, next_file, with_datafile}
-use Rattle.rm_machine.specs.Marks.{one_further}
-use Rattle.rm_machine.specs.Write.{change_of, with_write}
-use Rattle.rm_machine.specs.declared.state.Instance.{Instance}
-use Rattle.rm_machine.specs.declared.state.State.{State}
-use Rattle.rm_machine.specs.State.{ledger}
-use Rattle.rm_machine.specs.Tracked.{tracks}
+use Rattle.rm_catalog_typed.specs.{Changes.{with_file}, TypedCatalog.{TypedCatalog}}
+use Rattle.rm_machine.specs.{CreateDatafile.{new_datafile, next_file, with_datafile}, Marks.{one_further}, Write.{change_of, with_write}}
+use Rattle.rm_machine.specs.{State.{ledger}, Tracked.{tracks}, declared.state.{Instance.{Instance}, State.{State}}}
 
 -- what is in place, with the change in its row
 abbrev pub with_row : List (Option File) → Change → List (Option File)

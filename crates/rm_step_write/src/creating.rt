@@ -1,13 +1,9 @@
 //! CREATE DATAFILE BLOCKS n
 ghost use Rattle.std.specs.Prelude.{◌≡◌, ◌<◌, ◌≤◌, ◌+◌, if◌then◌else◌, IfOk, OnOk, Option, None, sum_by};
-ghost use Rattle.rm_base.specs.Numbers.{last_scn};
-ghost use Rattle.rm_base.specs.Store.{Held};
+ghost use Rattle.rm_base.specs.{Numbers.{last_scn}, Store.{Held}};
 ghost use Rattle.rm_lang_statement.specs.declared.command.Command.TheVariants.{CreateDatafile};
-ghost use Rattle.rm_machine.specs.CreateDatafile.{datafile_refusal, new_datafile, next_file, room_refusal};
-ghost use Rattle.rm_machine.specs.Hands.{Hands};
-ghost use Rattle.rm_machine.specs.Sound.{IsSound};
-ghost use Rattle.rm_machine.specs.State.{ledger};
-ghost use Rattle.rm_machine.specs.Tracked.{tracks};
+ghost use Rattle.rm_machine.specs.{CreateDatafile.{datafile_refusal, new_datafile, next_file, room_refusal}, Hands.{Hands}};
+ghost use Rattle.rm_machine.specs.{Sound.{IsSound}, State.{ledger}, Tracked.{tracks}};
 ghost use Rattle.rm_track.specs.Bitmaps.{fresh, with_file};
 ghost use Rattle.rm_catalog_typed.specs.Changes.{EditsFollow};
 

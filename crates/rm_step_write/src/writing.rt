@@ -4,10 +4,8 @@ ghost use Rattle.std.specs.Option.{option_map};
 ghost use Rattle.rm_base.specs.Store.{Held};
 ghost use Rattle.rm_blocks.specs.File.{written};
 ghost use Rattle.rm_lang_statement.specs.declared.command.Command.TheVariants.{Write};
-ghost use Rattle.rm_machine.specs.Hands.{Hands};
-ghost use Rattle.rm_machine.specs.Sound.{IsSound};
+ghost use Rattle.rm_machine.specs.{Hands.{Hands}, Sound.{IsSound}, Write.{block_refusal, change_of, place_refusal, write_refusal}};
 ghost use Rattle.rm_redo.specs.Online.{IsThread};
-ghost use Rattle.rm_machine.specs.Write.{block_refusal, change_of, place_refusal, write_refusal};
 ghost use Rattle.rm_catalog_typed.specs.Changes.{EditsFollow};
 
 use rm_base::{Absent, Change, LAST_SCN, Limit, NoMemory, Refusal, Seq, ThreadNo};

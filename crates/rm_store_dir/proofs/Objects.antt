@@ -1,7 +1,6 @@
 -- What a folder tells of its objects.
+use Rattle.std.specs.{Prelude.{◌≢◌, IfSome}, Option.{option_map}}
 use Rattle.std.proofs.Common.{◌≡◌, ◌∙◌, refl, sym, ap, ℕ, Bool, true, false, List, Option, Some, None, rules}
-use Rattle.std.specs.Prelude.{◌≢◌, IfSome}
-use Rattle.std.specs.Option.{option_map}
 use Rattle.rm_base.specs.Store.{Held, Both, HasNow, SameBut}
 use Rattle.rm_store_dir.specs.DirStore.{is_object, objects_of, KeepsOthers}
 

@@ -1,6 +1,5 @@
 -- What a machine that stops may keep of a folder, after one call and another.
-use Rattle.std.proofs.Common.{◌≡◌, ◌≢◌, ◌∙◌, ℕ, List, Option, Some, None, Contains, inl, inr, sym, subst, rules}
-use Rattle.std.specs.Prelude.{IfSome}
+use Rattle.std.{specs.Prelude.{IfSome}, proofs.Common.{◌≡◌, ◌≢◌, ◌∙◌, ℕ, List, Option, Some, None, Contains, inl, inr, sym, subst, rules}}
 use Rattle.rm_base.specs.Store.{Held, Both, HasNow, SameBut}
 use Rattle.rm_store_dir.specs.Folder.{Kept, MayHave, KeepsBut, MayMove, MaySettle}
 

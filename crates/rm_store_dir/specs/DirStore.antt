@@ -1,6 +1,5 @@
 -- The objects among the files of a folder.
-use Rattle.std.specs.Prelude.{◌≡◌, ◌≢◌, ◌&&◌, if◌then◌else◌, ℕ, Bool, IsTrue, List, length, None, nat_le, None}
-use Rattle.std.specs.List.{list_all}
+use Rattle.std.specs.{Prelude.{◌≡◌, ◌≢◌, ◌&&◌, if◌then◌else◌, ℕ, Bool, IsTrue, List, length, None, nat_le}, List.{list_all}}
 use Rattle.rm_lang_token.specs.Tokens.{is_word_byte}
 use Rattle.rm_base.specs.Store.{Held}
 use Rattle.rm_store_dir.specs.declared.store.DirStore.{DirStore}

@@ -1,7 +1,5 @@
 //! Which names are objects'.
-ghost use Rattle.std.specs.Prelude.{◌≡◌, false, IfOk};
-ghost use Rattle.std.specs.List.{list_all};
-ghost use Rattle.std.specs.String.{string_bytes};
+ghost use Rattle.std.specs.{Prelude.{◌≡◌, false, IfOk}, List.{list_all}, String.{string_bytes}};
 ghost use Rattle.rm_lang_token.specs.Tokens.{is_word_byte};
 ghost use Rattle.rm_store_dir.specs.DirStore.{is_object};
 

@@ -1,10 +1,7 @@
 //! The objects of a folder.
 ghost use Rattle.std.specs.Prelude.{◌≡◌, ◌≢◌, ◌<◌, ◌≤◌, ◌∷◌, [], true, length, IsTrue, IsErr, Some, None, IfOk, IfSome, OnOk, IsErrOf};
-ghost use Rattle.rm_base.specs.Outside.{Rose};
-ghost use Rattle.rm_base.specs.Store.{Both, HasNow};
-ghost use Rattle.rm_base.specs.declared.store.StoreFail.TheVariants.{Failed};
-ghost use Rattle.rm_store_dir.specs.DirStore.{is_object, most_bytes, objects_of, KeepsOthers};
-ghost use Rattle.rm_store_dir.specs.Folder.{MayHave};
+ghost use Rattle.rm_base.specs.{Outside.{Rose}, Store.{Both, HasNow}, declared.store.StoreFail.TheVariants.{Failed}};
+ghost use Rattle.rm_store_dir.specs.{DirStore.{is_object, most_bytes, objects_of, KeepsOthers}, Folder.{MayHave}};
 
 use crate::dir::Dir;
 use crate::folder::{Folder, put_whole, remove_whole};

@@ -1,22 +1,13 @@
 -- The small database is sound, its datafile is there, and its logs have room.
+use Rattle.std.specs.{Global.{Global}, Option.{option_map_or}}
 use Rattle.std.proofs.Common.{◌≡◌, ℕ, zero, suc, ◌+◌, ◌-◌, ◌<◌, ◌≤◌, Bool, true, false, Option, Some, IsSome, Vec, List, [], ◌∷◌, length, map, replicate, slice_get, get_or, All, refl, sym, ap, ◌∙◌, subst, arith}
-use Rattle.std.specs.Global.{Global}
-use Rattle.std.specs.Option.{option_map_or}
-use Rattle.std.proofs.lemmas.List.{length-map}
-use Rattle.std.proofs.lemmas.List.Elements.{All-cons, All-head, All-nil, All-push, All-tail}
-use Rattle.rm_base.specs.Created.{created_row}
-use Rattle.rm_base.specs.Numbers.{last_scn}
-use Rattle.rm_base.specs.declared.block.Row.{Row}
-use Rattle.rm_blocks.specs.File.{File, created, created_rows}
-use Rattle.rm_blocks.proofs.Rows.{length-created}
+use Rattle.std.proofs.lemmas.List.{length-map, Elements.{All-cons, All-head, All-nil, All-push, All-tail}}
+use Rattle.rm_base.specs.{Created.{created_row}, Numbers.{last_scn}, declared.block.Row.{Row}}
+use Rattle.rm_blocks.{specs.File.{File, created, created_rows}, proofs.Rows.{length-created}}
 use Rattle.rm_redo.specs.Online.{IsLost, IsThread, fresh_log, fresh_logs, log_where, no_log, thread_records, up_to}
 use Rattle.rm_redo.specs.declared.online.ThreadLog.{ThreadLog}
-use Rattle.rm_live.specs.Parts.{IsSound, Parts}
-use Rattle.rm_live.specs.Passes.{IsLater, Standing}
-use Rattle.rm_live.specs.Ruled.{total}
-use Rattle.rm_channel.specs.Jobs.{lists}
-use Rattle.rm_channel.specs.Room.{AreThreads, CanWrite, HasBlock, HaveRoom, IsThere}
-use Rattle.rm_channel.specs.declared.jobs.CopyJob.{CopyJob}
+use Rattle.rm_live.specs.{Parts.{IsSound, Parts}, Passes.{IsLater, Standing}, Ruled.{total}}
+use Rattle.rm_channel.specs.{Jobs.{lists}, Room.{AreThreads, CanWrite, HasBlock, HaveRoom, IsThere}, declared.jobs.CopyJob.{CopyJob}}
 use Rattle.rm_channel.specs.declared.jobs.WriteJob.{WriteJob}
 use Rattle.rm_test_channel.specs.Small.{AreWrites, IsOfFile, opening}
 

@@ -3,12 +3,8 @@ use Rattle.std.specs.Prelude.{◌≡◌, ℕ, ◌≤◌, List, [], ◌∷◌, Al
 use Rattle.atomic_table.specs.Seated.{TableId}
 use Rattle.rm_blocks.specs.File.{created}
 use Rattle.rm_redo.specs.Online.{fresh_logs}
-use Rattle.rm_live.specs.Parts.{Parts}
-use Rattle.rm_live.specs.Passes.{Standing}
-use Rattle.rm_live.specs.Ruled.{upto}
-use Rattle.rm_channel.specs.Jobs.{IsWanted, size_of}
-use Rattle.rm_channel.specs.declared.jobs.CopyJob.{CopyJob}
-use Rattle.rm_channel.specs.declared.jobs.WriteJob.{WriteJob}
+use Rattle.rm_live.specs.{Parts.{Parts}, Passes.{Standing}, Ruled.{upto}}
+use Rattle.rm_channel.specs.{Jobs.{IsWanted, size_of}, declared.jobs.{CopyJob.{CopyJob}, WriteJob.{WriteJob}}}
 use Rattle.rm_repair.specs.declared.jobs.MendJob.{MendJob}
 
 -- file 1 of so many blocks, and four threads

@@ -2,9 +2,7 @@
 ghost use Rattle.std.specs.Prelude.{◌≡◌, ◌≤◌, IfOk, length};
 ghost use Rattle.rm_base.specs.Numbers.{last_scn};
 ghost use Rattle.rm_redo.specs.Online.{IsThread, IsLost, fresh_logs};
-ghost use Rattle.rm_live.specs.Parts.{IsNumbered, IsSound, parts_of};
-ghost use Rattle.rm_live.specs.Ruled.{upto};
-ghost use Rattle.rm_live.specs.Passes.{IsLater};
+ghost use Rattle.rm_live.specs.{Parts.{IsNumbered, IsSound, parts_of}, Ruled.{upto}, Passes.{IsLater}};
 
 use rm_base::{Block, BlockNo, NoMemory, Row, Scn, ThreadNo};
 use rm_blocks::DataFile;

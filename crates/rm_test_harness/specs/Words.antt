@@ -1,8 +1,6 @@
 -- The words of the tables.
 use Rattle.std.specs.Prelude.{ℕ, List, codes}
-use Rattle.rm_base.specs.declared.kinds.Kind.{Kind}
-use Rattle.rm_base.specs.declared.kinds.Kind.TheVariants.{Full, Level0, Level1, Place}
-use Rattle.rm_base.specs.declared.kinds.Status.{Status}
+use Rattle.rm_base.specs.declared.kinds.{Kind.{Kind, TheVariants.{Full, Level0, Level1, Place}}, Status.{Status}}
 use Rattle.rm_base.specs.declared.kinds.Status.TheVariants.{Available, Unavailable, Expired}
 
 -- the word of a kind

@@ -1,6 +1,5 @@
 //! Blocks and rows of a datafile, as the tables say them.
-ghost use Rattle.std.specs.Prelude.{◌≡◌, ◌≢◌, [], codes};
-ghost use Rattle.std.specs.Str.{IsUtf8};
+ghost use Rattle.std.specs.{Prelude.{◌≡◌, ◌≢◌, [], codes}, Str.{IsUtf8}};
 ghost use Rattle.rm_base.specs.Content.{trimmed};
 
 use crate::fault::{Fault, differs};

@@ -1,11 +1,7 @@
 //! What a line of a table says: its first word, numbers, texts between quotes, and the words of kinds and statuses.
-ghost use Rattle.std.specs.Prelude.{◌≡◌, ◌≢◌, ◌==◌, ℕ, List, [], ◌∷◌, ◌++◌, Ok, IfOk, IfErr};
-ghost use Rattle.std.specs.List.{after_first, before_first};
-ghost use Rattle.rm_base.specs.declared.kinds.Kind.{Kind};
-ghost use Rattle.rm_base.specs.declared.kinds.Kind.TheVariants.{Place};
-ghost use Rattle.rm_base.specs.declared.kinds.Status.{Status};
-ghost use Rattle.rm_test_harness.specs.Faults.{Tells};
-ghost use Rattle.rm_test_harness.specs.Words.{kind_word, status_word};
+ghost use Rattle.std.specs.{Prelude.{◌≡◌, ◌≢◌, ◌==◌, ℕ, List, [], ◌∷◌, ◌++◌, Ok, IfOk, IfErr}, List.{after_first, before_first}};
+ghost use Rattle.rm_base.specs.declared.kinds.{Kind.{Kind, TheVariants.{Place}}, Status.{Status}};
+ghost use Rattle.rm_test_harness.specs.{Faults.{Tells}, Words.{kind_word, status_word}};
 
 use crate::fault::{Fault, differs};
 use rm_base::{Kind, Status};

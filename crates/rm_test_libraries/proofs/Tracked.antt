@@ -1,8 +1,6 @@
 -- Where the current bitmap of datafile 1 starts, behind a call.
-use Rattle.std.proofs.Common.{◌≡◌, ◌≤◌, ◌∙◌, ℕ, List, Option, Some, None, IfSome, refl, ap, sym, subst, arith}
-use Rattle.std.specs.Option.{option_map}
-use Rattle.rm_track.specs.Bitmaps.{Tracked, mark_at, switch_at, switched, tracked_at, with_mark}
-use Rattle.rm_track.proofs.Places.{found-same}
+use Rattle.std.{specs.Option.{option_map}, proofs.Common.{◌≡◌, ◌≤◌, ◌∙◌, ℕ, List, Option, Some, None, IfSome, refl, ap, sym, subst, arith}}
+use Rattle.rm_track.{specs.Bitmaps.{Tracked, mark_at, switch_at, switched, tracked_at, with_mark}, proofs.Places.{found-same}}
 
 -- it is not tracked, or it starts at most there
 abbrev pub StartsBy : List Tracked → ℕ → Type 0

@@ -1,7 +1,6 @@
 //! The table of what RECOVER COPY makes of the copies of a store.
 ghost use Rattle.std.specs.Prelude.{IfOk};
-ghost use Rattle.rm_catalog.specs.Rules.{HasDatabase};
-ghost use Rattle.rm_catalog.specs.Trees.{nodes};
+ghost use Rattle.rm_catalog.specs.{Rules.{HasDatabase}, Trees.{nodes}};
 ghost use Rattle.rm_evidence.specs.Known.{FitsTree};
 
 use crate::made::{catalog_of, three_branches};

@@ -2,10 +2,8 @@
 ghost use Rattle.std.specs.Prelude.{◌≡◌, ◌≢◌, ◌<◌, All, IsTrue};
 ghost use Rattle.rm_base.specs.declared.kinds.Kind.TheVariants.{Level1 as AnIncrement};
 ghost use Rattle.rm_catalog.specs.Rules.{HasDatabase};
-ghost use Rattle.rm_evidence.specs.Known.{FitsLog, FitsPiece, FitsTree};
-ghost use Rattle.rm_history.specs.FirstGap.{IsTarget};
-ghost use Rattle.rm_history.specs.World.{blocks_of};
-ghost use Rattle.rm_evidence.specs.Database.{world_of};
+ghost use Rattle.rm_evidence.specs.{Known.{FitsLog, FitsPiece, FitsTree}, Database.{world_of}};
+ghost use Rattle.rm_history.specs.{FirstGap.{IsTarget}, World.{blocks_of}};
 ghost use Rattle.rm_plan.specs.Plan.{IsFileTarget};
 
 use rm_base::{BlockId, BlockNo, FileNo, IncNo, Kind, NoMemory, Part, Scn, Seq};

@@ -1,30 +1,17 @@
 -- A RUN goes on by one statement.
-use Rattle.std.proofs.Common.{All, ◌≡◌, ◌∙◌, ◌++◌, ◌||◌, ◌&&◌, not, nat_lt, if◌then◌else◌, ℕ, List, [], ◌∷◌, Option, Some, None, Bool, true, false, MatchBool, inl, inr, refl, ap, sym, subst, append-nil, append_assoc, length}
 use Rattle.std.specs.List.{list_all}
-use Rattle.std.proofs.lemmas.Bool.{and_parts}
-use Rattle.std.proofs.lemmas.List.{nil_from_length}
-use Rattle.std.proofs.lemmas.List.Elements.{All-append, All-cons, All-nil}
+use Rattle.std.proofs.Common.{All, ◌≡◌, ◌∙◌, ◌++◌, ◌||◌, ◌&&◌, not, nat_lt, if◌then◌else◌, ℕ, List, [], ◌∷◌, Option, Some, None, Bool, true, false, MatchBool, inl, inr, refl, ap, sym, subst, append-nil, append_assoc, length}
+use Rattle.std.proofs.lemmas.{Bool.{and_parts}, List.{nil_from_length, Elements.{All-append, All-cons, All-nil}}}
 use Rattle.std.proofs.Math.Bool.{or-false, or_assoc}
-use Rattle.rm_base.specs.Store.{Held}
+use Rattle.rm_base.specs.{Store.{Held}, declared.refusal.{Limit.TheVariants.{Channels}, Refusal.TheVariants.{Rm02, Rm11}}}
 use Rattle.rm_catalog.specs.declared.record.Record.{Record}
-use Rattle.rm_lang_statement.specs.declared.command.Inner.{Inner}
-use Rattle.rm_lang_statement.specs.declared.command.Inner.TheVariants.{SetUntil, AllocateChannel, Plain as PlainInner}
-use Rattle.rm_report.specs.declared.line.Line.{Line}
-use Rattle.rm_report.specs.declared.line.Reply.{Reply}
-use Rattle.rm_base.specs.declared.refusal.Limit.TheVariants.{Channels}
-use Rattle.rm_base.specs.declared.refusal.Refusal.TheVariants.{Rm02, Rm11}
-use Rattle.rm_report.proofs.Plain.{refused-flagged, said-flagged}
-use Rattle.rm_report.specs.Reply.{IsFlagged, IsPlain, refused_by, said}
-use Rattle.rm_report.specs.declared.line.Line.TheVariants.{ChannelAllocated, UntilSet}
-use Rattle.rm_machine.specs.Laws.{only_tells}
-use Rattle.rm_machine.specs.Machine.{Machine}
-use Rattle.rm_machine.specs.Rest.{Rest, at_rest}
-use Rattle.rm_machine.specs.declared.state.State.{State}
-use Rattle.rm_machine_laws.specs.Holds.{Holds, HoldsRest, Stands, View}
-use Rattle.rm_machine_laws.proofs.Halting.{rests}
+use Rattle.rm_lang_statement.specs.declared.command.Inner.{Inner, TheVariants.{SetUntil, AllocateChannel, Plain as PlainInner}}
+use Rattle.rm_report.specs.{Reply.{IsFlagged, IsPlain, refused_by, said}, declared.line.{Line.{Line}, Reply.{Reply}}}
+use Rattle.rm_report.{specs.declared.line.Line.TheVariants.{ChannelAllocated, UntilSet}, proofs.Plain.{refused-flagged, said-flagged}}
+use Rattle.rm_machine.specs.{Laws.{only_tells}, Machine.{Machine}, Rest.{Rest, at_rest}, declared.state.State.{State}}
+use Rattle.rm_machine_laws.{specs.Holds.{Holds, HoldsRest, Stands, View}, proofs.Halting.{rests}}
 use Rattle.rm_tool.specs.Block.{BlockLeaves, BlockSteps, InnerLeaves, IsHonestInside, after_inner, channel_reply, inner_applies, joined, set_reply, unset, with_until}
-use Rattle.rm_tool.specs.Serving.{InnerSteps, InnerStops}
-use Rattle.rm_tool.specs.declared.block.Settings.{Settings}
+use Rattle.rm_tool.specs.{Serving.{InnerSteps, InnerStops}, declared.block.Settings.{Settings}}
 
 -- As far as a RUN came, from the machine `first` on, with these lines: the machine behind the statements that are done, and
 -- what comes of the whole by what comes of those that are left.

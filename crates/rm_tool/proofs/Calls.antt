@@ -2,15 +2,12 @@
 use Rattle.std.proofs.Common.{◌≡◌, ℕ, Bool, List, Option, Some, None, if◌then◌else◌, sym, subst}
 use Rattle.rm_base.specs.Store.{Held}
 use Rattle.rm_catalog.specs.declared.record.Record.{Record}
-use Rattle.rm_lang_token.specs.declared.token.Token.{Token}
-use Rattle.rm_lang_token.specs.Statements.{statements}
+use Rattle.rm_lang_token.specs.{Statements.{statements}, declared.token.Token.{Token}}
 use Rattle.rm_machine.specs.Machine.{Machine}
 use Rattle.rm_machine_laws.specs.Holds.{View}
-use Rattle.rm_tool_opening.specs.Opens.{Opens, Shows}
-use Rattle.rm_tool.specs.Run.{Watch}
-use Rattle.rm_tool.specs.Serving.{FromEach, Closes, EndsInOutput, EndsMidway, at_saving, at_statement}
+use Rattle.rm_tool_opening.specs.{Opens.{Opens, Shows}, Opening.{FromRest}}
+use Rattle.rm_tool.specs.{Run.{Watch}, Serving.{FromEach, Closes, EndsInOutput, EndsMidway, at_saving, at_statement}}
 use Rattle.rm_tool.specs.Session.{Finishes, HasScript, OfOpened, OfScript, ScriptOf}
-use Rattle.rm_tool_opening.specs.Opening.{FromRest}
 
 -- what is so of each machine that the opened site stands for is so of the one that wakes
 from-opening : (held : Option Held) (kept : Option (List Record)) (v : View) (Is : Machine → Type 0) → Opens held kept v → FromEach held kept v Is → FromRest held kept Is

@@ -3,15 +3,9 @@ use Rattle.std.proofs.Common.{◌≡◌, ◌∙◌, ◌⊎◌, ◌||◌, ℕ, Li
 use Rattle.rm_base.specs.Store.{Held}
 use Rattle.rm_catalog.specs.declared.record.Record.{Record}
 use Rattle.rm_lang_token.specs.declared.token.Token.{Token}
-use Rattle.rm_machine_laws.specs.Holds.{View}
-use Rattle.rm_machine_laws.specs.Saves.{IsEnded, Saves, StopsSaving}
-use Rattle.rm_machine_laws.specs.Stopped.{IsLeft}
-use Rattle.rm_tool_opening.specs.Saved.{EndsOut}
-use Rattle.rm_tool_opening.specs.Untouched.{AreSame}
-use Rattle.rm_tool.specs.Comes.{AtHand}
-use Rattle.rm_tool.proofs.Quiet.{same-then}
-use Rattle.rm_tool.specs.Run.{Watch}
-use Rattle.rm_tool.specs.Serving.{FromEach, Shows, Closes, EndsMidway, at_saving}
+use Rattle.rm_machine_laws.specs.{Holds.{View}, Saves.{IsEnded, Saves, StopsSaving}, Stopped.{IsLeft}}
+use Rattle.rm_tool_opening.specs.{Saved.{EndsOut}, Untouched.{AreSame}}
+use Rattle.rm_tool.{specs.{Comes.{AtHand}, Run.{Watch}, Serving.{FromEach, Shows, Closes, EndsMidway, at_saving}}, proofs.Quiet.{same-then}}
 
 module _ {clock later : Watch} {before now : Option (List ℕ)} {held : Option Held} {kept : Option (List Record)} {v : View} {mid last : Option Held} {mid_kept last_kept : Option (List Record)} {v' : View} {refused : Bool} {ss : List (ℕ × List Token)}
     (fresh : v.applied ≡ false) (drill : Option ℕ) (s : Shows drill clock later before now held kept v mid mid_kept v' refused ss) where

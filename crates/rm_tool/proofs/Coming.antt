@@ -1,30 +1,17 @@
 -- What statements come to by what is at hand, one after another.
 use Rattle.std.proofs.Common.{◌≡◌, ◌∙◌, ◌++◌, ◌||◌, ℕ, List, [], ◌∷◌, Option, Some, None, IfSome, Result, Ok, Err, IfOk, Bool, true, false, refl, ap, sym, subst, append-nil, append_assoc, length}
-use Rattle.std.proofs.lemmas.List.{nil_from_length}
-use Rattle.std.proofs.Math.Bool.{or-false, or_assoc}
-use Rattle.rm_base.specs.Store.{Answers, Held}
-use Rattle.rm_base.specs.declared.refusal.Refusal.{Refusal}
+use Rattle.std.proofs.{lemmas.List.{nil_from_length}, Math.Bool.{or-false, or_assoc}}
+use Rattle.rm_base.specs.{Store.{Answers, Held}, declared.refusal.Refusal.{Refusal}}
 use Rattle.rm_catalog.specs.declared.record.Record.{Record}
-use Rattle.rm_lang_statement.specs.declared.command.Command.{Command}
-use Rattle.rm_lang_statement.specs.declared.command.Inner.{Inner}
-use Rattle.rm_lang_statement.specs.declared.command.Inner.TheVariants.{Plain as PlainInner}
+use Rattle.rm_lang_statement.specs.declared.command.{Command.{Command}, Inner.{Inner, TheVariants.{Plain as PlainInner}}}
 use Rattle.rm_lang_token.specs.declared.token.Token.{Token}
 use Rattle.rm_machine.specs.Marks.{lacks_ids}
-use Rattle.rm_machine_laws.specs.Holds.{View}
-use Rattle.rm_machine_laws.specs.Moments.{moment_of}
-use Rattle.rm_machine_laws.specs.Refused.{AnsweredBy, refusal_in}
-use Rattle.rm_machine_laws.specs.Saves.{applies}
-use Rattle.rm_report.specs.Reply.{said}
-use Rattle.rm_report.specs.declared.line.Line.{Line}
-use Rattle.rm_report.specs.declared.line.Reply.{Reply}
-use Rattle.rm_tool_opening.specs.ComesOut.{ComesOut}
-use Rattle.rm_tool_opening.specs.Untouched.{IsUntouched, is_quiet}
-use Rattle.rm_tool.specs.Block.{after_inner, inner_applies, joined, unset, with_until}
-use Rattle.rm_tool.specs.Built.{statement_built_at}
-use Rattle.rm_tool.specs.Comes.{AllCome, AtHand, BlockComes, CommandComes, InnerComes, StatementComes, at_hand}
-use Rattle.rm_tool.specs.Run.{behind, past}
-use Rattle.rm_tool.specs.declared.block.Settings.{Settings}
-use Rattle.rm_tool.proofs.Blocks.{match-false, match-true, refused-applies}
+use Rattle.rm_machine_laws.specs.{Holds.{View}, Moments.{moment_of}, Refused.{AnsweredBy, refusal_in}, Saves.{applies}}
+use Rattle.rm_report.specs.{Reply.{said}, declared.line.{Line.{Line}, Reply.{Reply}}}
+use Rattle.rm_tool_opening.specs.{ComesOut.{ComesOut}, Untouched.{IsUntouched, is_quiet}}
+use Rattle.rm_tool.specs.{Block.{after_inner, inner_applies, joined, unset, with_until}, Built.{statement_built_at}}
+use Rattle.rm_tool.specs.{Comes.{AllCome, AtHand, BlockComes, CommandComes, InnerComes, StatementComes, at_hand}, Run.{behind, past}}
+use Rattle.rm_tool.{specs.declared.block.Settings.{Settings}, proofs.Blocks.{match-false, match-true, refused-applies}}
 
 -- the site shows the same database
 answered-state : (why : Option Refusal) (c : Command) (reply : Reply) (v w : View) → AnsweredBy why c reply v w → AnsweredBy why c reply v.state w.state

@@ -1,21 +1,14 @@
 -- What a drill shows, of which no reply is kept.
-use Rattle.std.proofs.Common.{◌≡◌, ◌≤◌, ◌∙◌, ◌-◌, ℕ, Bool, List, Option, Some, None, ap, subst, sym, arith, length}
-use Rattle.std.specs.List.{list_any}
-use Rattle.rm_base.specs.Outside.{Appends}
-use Rattle.rm_base.specs.Store.{Held}
+use Rattle.std.{specs.List.{list_any}, proofs.Common.{◌≡◌, ◌≤◌, ◌∙◌, ◌-◌, ℕ, Bool, List, Option, Some, None, ap, subst, sym, arith, length}}
+use Rattle.rm_base.specs.{Outside.{Appends}, Store.{Held}}
 use Rattle.rm_catalog.specs.declared.record.Record.{Record}
 use Rattle.rm_lang_token.specs.declared.token.Token.{Token}
-use Rattle.rm_machine_laws.specs.Holds.{View}
-use Rattle.rm_machine_laws.proofs.Halting.{rests}
+use Rattle.rm_machine_laws.{specs.Holds.{View}, proofs.Halting.{rests}}
 use Rattle.rm_report.specs.declared.line.Reply.{Reply}
 use Rattle.rm_tool_opening.specs.Shown.{next_scn, objects_in}
-use Rattle.rm_tool.proofs.Tallies.{line-is}
-use Rattle.rm_tool.specs.Drill.{IsTally, drill_line, summary_text}
-use Rattle.rm_tool.specs.Comes.{AtHand}
+use Rattle.rm_tool.specs.{Drill.{IsTally, drill_line, summary_text}, Comes.{AtHand}, Run.{Watch}}
+use Rattle.rm_tool.{specs.{Serving.{FromEach, EndsInLine, Serves, Shows}, declared.drill.Summary.{Summary}}, proofs.Tallies.{line-is}}
 use Rattle.rm_tool_ends.specs.Writing.{WritesFront}
-use Rattle.rm_tool.specs.Run.{Watch}
-use Rattle.rm_tool.specs.Serving.{FromEach, EndsInLine, Serves, Shows}
-use Rattle.rm_tool.specs.declared.drill.Summary.{Summary}
 
 -- All statements were served, and this is what the line tells of them.
 module _ {clock later : Watch} {held : Option Held} {kept : Option (List Record)} {v : View} {held' : Option Held} {kept' : Option (List Record)} {ss : List (ℕ × List Token)} {v' : View} (line : Summary) (s : Serves clock later None None held kept v held' kept' v' line.tally ss) (many : line.statements ≡ length ss) (most : length ss ≤ 18446744073709551615) (scn : line.next_scn ≡ next_scn v'.state) (objects : line.objects ≡ objects_in v'.state) where

@@ -1,21 +1,14 @@
 -- What a run leaves that ended early, of how the calls below it did.
-use Rattle.std.proofs.Common.{◌≡◌, ◌∙◌, ℕ, Bool, List, Option, Result, Ok, Err, Contains, [], ◌∷◌, lit<, arith, refl, subst, sym}
 use Rattle.std.specs.Prelude.{IsErrAnd}
-use Rattle.rm_base.specs.Outside.{Rose}
-use Rattle.rm_base.specs.Store.{Held}
+use Rattle.std.proofs.Common.{◌≡◌, ◌∙◌, ℕ, Bool, List, Option, Result, Ok, Err, Contains, [], ◌∷◌, lit<, arith, refl, subst, sym}
+use Rattle.rm_base.specs.{Outside.{Rose}, Store.{Held}}
 use Rattle.rm_catalog.specs.declared.record.Record.{Record}
 use Rattle.rm_tool.specs.Early.{EndsAtScript, EndsAtWords, Faults, Leaves, NoneFalls, RoseAtSink, RoseFor, of_halt, of_unopened, status_for, status_of}
-use Rattle.rm_tool_opening.specs.Opening.{RoseUnopened, WritesUnopened}
 use Rattle.rm_tool.specs.Run.{Watch}
 use Rattle.rm_tool.specs.Session.{EndsEarly, HasScript, NoneRan, WritesPart, before_statements, in_bad_record, in_bad_words, in_over_long}
-use Rattle.rm_tool_opening.specs.Opening.{TellsValid}
-use Rattle.rm_tool.specs.Words.{drill_of}
-use Rattle.rm_tool.specs.declared.early.Early.{Early}
-use Rattle.rm_tool.specs.declared.early.Early.TheVariants as early
-use Rattle.rm_tool_opening.specs.declared.opening.Unopened.{Unopened}
+use Rattle.rm_tool.specs.{Words.{drill_of}, declared.{early.Early.{Early, TheVariants as early}, session.Halt.{Halt, TheVariants as halt}}}
+use Rattle.rm_tool_opening.specs.{Opening.{RoseUnopened, WritesUnopened, TellsValid}, declared.opening.Unopened.{Unopened}}
 use Rattle.rm_tool_opening.specs.declared.opening.Unopened.TheVariants as unopened
-use Rattle.rm_tool.specs.declared.session.Halt.{Halt}
-use Rattle.rm_tool.specs.declared.session.Halt.TheVariants as halt
 
 module _ (words : List (List ℕ)) (left rest : Option (List ℕ)) (clock later : Watch) (before now : Option (List ℕ)) (held : Option Held) (kept : Option (List Record)) (held' : Option Held) (kept' : Option (List Record)) where
   -- the words were not accepted

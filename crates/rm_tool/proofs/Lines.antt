@@ -1,17 +1,11 @@
 -- What was written of a line that is written part by part.
+use Rattle.std.specs.{Borrow.{Bor}, Fmt.{decimal}, Prelude.{fold, get_or}}
 use Rattle.std.proofs.Common.{◌≡◌, ◌<◌, Result, Ok, Err, OnErr, OnOk, ◌+◌, ◌∙◌, ◌++◌, ◌∷◌, [], ℕ, List, Option, sym, subst, arith, take, drop, length, ap, append-nil, codes}
-use Rattle.std.specs.Borrow.{Bor}
-use Rattle.std.specs.Fmt.{decimal}
-use Rattle.std.specs.Prelude.{fold, get_or}
-use Rattle.std.proofs.Math.Seq.{take-append-add}
-use Rattle.std.proofs.lemmas.List.Sums.{fold-append}
+use Rattle.std.proofs.{Math.Seq.{take-append-add}, lemmas.List.Sums.{fold-append}}
 use Rattle.std.proofs.lemmas.List.{append_assoc, get_or_default, length-append, take-append-drop, take-append-le}
-use Rattle.rm_base.specs.Outside.{Appends}
-use Rattle.rm_base.proofs.Lists.{take_more}
-use Rattle.rm_base.proofs.Streams.{appends-then}
+use Rattle.rm_base.{specs.Outside.{Appends}, proofs.{Lists.{take_more}, Streams.{appends-then}}}
 use Rattle.rm_tool_ends.specs.Writing.{WritesFront}
-use Rattle.rm_tool.specs.Drill.{parts_text, summary_text, with_part}
-use Rattle.rm_tool.specs.declared.drill.Summary.{Summary}
+use Rattle.rm_tool.specs.{Drill.{parts_text, summary_text, with_part}, declared.drill.Summary.{Summary}}
 
 -- a front of what follows was written
 pub front-after : (a b c : Option (List ℕ)) (xs ys : List ℕ) → Appends a b xs → WritesFront b c ys → WritesFront a c (xs ++ ys)

@@ -1,21 +1,15 @@
 -- What leaves all as it was, one after another.
-use Rattle.std.proofs.Common.{◌≡◌, ◌∙◌, ◌||◌, Bool, true, false, List, ◌∷◌, Option, Some, None, refl, ap, subst}
-use Rattle.std.specs.List.{list_all}
+use Rattle.std.{specs.List.{list_all}, proofs.Common.{◌≡◌, ◌∙◌, ◌||◌, Bool, true, false, List, ◌∷◌, Option, Some, None, refl, ap, subst}}
 use Rattle.std.proofs.lemmas.Bool.{and_parts}
 use Rattle.rm_base.specs.Store.{Held}
 use Rattle.rm_catalog.specs.declared.record.Record.{Record}
-use Rattle.rm_lang_statement.specs.declared.command.Command.{Command}
-use Rattle.rm_lang_statement.specs.declared.command.Command.TheVariants.{Restore, Preview, Recover, RecoverTest, RecoverCopy}
-use Rattle.rm_lang_statement.specs.declared.command.Inner.{Inner}
-use Rattle.rm_lang_statement.specs.declared.command.Until.{Until}
+use Rattle.rm_lang_statement.specs.declared.command.Command.{Command, TheVariants.{Restore, Preview, Recover, RecoverTest, RecoverCopy}}
+use Rattle.rm_lang_statement.specs.declared.command.{Inner.{Inner}, Until.{Until}, Statement.{Statement, TheVariants.{Plain, Run as Block}}}
 use Rattle.rm_machine.specs.Laws.{only_tells}
 use Rattle.rm_machine_laws.specs.Holds.{View}
 use Rattle.rm_report.specs.declared.line.Reply.{Reply}
 use Rattle.rm_tool_opening.specs.Untouched.{AreSame, IsUntouched, is_quiet}
-use Rattle.rm_tool.specs.Quiet.{is_quiet_statement, only_tells_statement}
-use Rattle.rm_lang_statement.specs.declared.command.Statement.{Statement}
-use Rattle.rm_lang_statement.specs.declared.command.Statement.TheVariants.{Plain, Run as Block}
-use Rattle.rm_tool.specs.Block.{with_until}
+use Rattle.rm_tool.specs.{Quiet.{is_quiet_statement, only_tells_statement}, Block.{with_until}}
 
 -- nothing was touched, and then nothing again
 pub untouched-then : {h i j : Option Held} {k l m : Option (List Record)} {u v w : View} → IsUntouched h k u i l v → IsUntouched i l v j m w → IsUntouched h k u j m w

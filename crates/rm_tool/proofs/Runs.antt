@@ -1,36 +1,23 @@
 -- A run goes on by one statement.
 use Rattle.std.proofs.Common.{◌≡◌, ◌+◌, ◌≤◌, ◌∙◌, ◌++◌, ◌||◌, ◌&&◌, ◌⊎◌, inl, inr, ℕ, zero, suc, List, [], ◌∷◌, Option, Some, None, IfSome, Bool, true, false, refl, ap, sym, subst, arith, append-nil, slice_get, take, drop, length, All}
-use Rattle.std.proofs.lemmas.Bool.{and_parts}
-use Rattle.std.proofs.lemmas.Grind.{flat_map-append}
-use Rattle.std.proofs.lemmas.List.{drop_more, length-take-le, length_push, take-append-drop}
-use Rattle.std.proofs.lemmas.List.Elements.{All-append, All-cons, All-nil}
-use Rattle.std.proofs.lemmas.Option.{get_or_from_slice_get, slice_get_within}
+use Rattle.std.proofs.lemmas.{Bool.{and_parts}, Grind.{flat_map-append}, List.{drop_more, length-take-le, length_push, take-append-drop}}
+use Rattle.std.proofs.lemmas.{List.Elements.{All-append, All-cons, All-nil}, Option.{get_or_from_slice_get, slice_get_within}}
 use Rattle.std.proofs.Math.Bool.{or-false, or_assoc}
-use Rattle.rm_base.specs.Outside.{Appends}
-use Rattle.rm_base.specs.Store.{Held, Answers, Both}
-use Rattle.rm_base.proofs.Lists.{take_more}
+use Rattle.rm_base.{specs.{Outside.{Appends}, Store.{Held, Answers, Both}}, proofs.Lists.{take_more}}
 use Rattle.rm_base.proofs.Streams.{appends-then, appends-nothing}
 use Rattle.rm_catalog.specs.declared.record.Record.{Record}
 use Rattle.rm_lang_statement.specs.declared.command.Statement.{Statement}
-use Rattle.rm_tool.specs.Built.{statement_built_at}
-use Rattle.rm_lang_token.specs.declared.token.Token.{Token}
-use Rattle.rm_report.specs.declared.line.Reply.{Reply}
-use Rattle.rm_report.specs.Reply.{IsFlagged}
-use Rattle.rm_report.specs.Text.{reply_text}
-use Rattle.rm_machine.specs.Machine.{Machine}
-use Rattle.rm_machine.specs.Rest.{at_rest}
-use Rattle.rm_machine_laws.specs.Holds.{Holds, HoldsRest, Stands, View}
-use Rattle.rm_machine_laws.proofs.Halting.{rests}
-use Rattle.rm_tool_opening.specs.Untouched.{AreSame, IsUntouched}
-use Rattle.rm_tool.proofs.Coming.{come-more}
-use Rattle.rm_tool.specs.Comes.{AtHand, ComeWith, StatementComes, at_hand}
-use Rattle.rm_tool.specs.Drill.{IsTally}
-use Rattle.rm_tool_ends.specs.Writing.{WritesFront}
+use Rattle.rm_tool.specs.{Built.{statement_built_at}, Comes.{AtHand, ComeWith, StatementComes, at_hand}, Drill.{IsTally}}
 use Rattle.rm_tool.specs.Quiet.{are_quiet, is_quiet_statement, only_tells_statement}
 use Rattle.rm_tool.specs.Run.{StepOf, StatementStep, past, behind, Run, IsHonestAlong, IsHonestWithin, RunsWhereHonest, AreToCome, Watch, WasAskedFor, asks, asks_for, replies_text}
-use Rattle.rm_tool.specs.declared.tally.Tally.{Tally}
-use Rattle.rm_tool.proofs.Quiet.{same-then, untouched-then}
 use Rattle.rm_tool.specs.Serving.{FromEach, HasPassed, IsPast, IsServed, IsCut, IsCutShort, IsOver, Serves, EndsAtStatement, EndsInReplies}
+use Rattle.rm_tool.{specs.declared.tally.Tally.{Tally}, proofs.{Coming.{come-more}, Quiet.{same-then, untouched-then}}}
+use Rattle.rm_lang_token.specs.declared.token.Token.{Token}
+use Rattle.rm_report.specs.{Reply.{IsFlagged}, Text.{reply_text}, declared.line.Reply.{Reply}}
+use Rattle.rm_machine.specs.{Machine.{Machine}, Rest.{at_rest}}
+use Rattle.rm_machine_laws.{specs.Holds.{Holds, HoldsRest, Stands, View}, proofs.Halting.{rests}}
+use Rattle.rm_tool_opening.specs.Untouched.{AreSame, IsUntouched}
+use Rattle.rm_tool_ends.specs.Writing.{WritesFront}
 
 -- The machine's run over these statements, with these replies, as far as it came: each course of the clock from
 -- here on is that of a whole one. Whatever machine the site stood for at the start, where digests tell along the run this is so of the

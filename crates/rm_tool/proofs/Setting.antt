@@ -1,11 +1,9 @@
 -- A command with the until of its RUN.
 use Rattle.std.proofs.Common.{◌≡◌, ◌&&◌, ◌∙◌, Bool, Option, Some, None, true, ap, refl}
-use Rattle.rm_lang_statement.specs.declared.command.Command.{Command}
+use Rattle.rm_lang_statement.specs.{IsCommand.{is_command, is_until_or_none}, declared.command.Command.{Command}}
 use Rattle.rm_lang_statement.specs.declared.command.Command.TheVariants.{Restore, Preview, Recover, RecoverTest, RecoverCopy}
 use Rattle.rm_lang_statement.specs.declared.command.Until.{Until}
-use Rattle.rm_lang_statement.specs.IsCommand.{is_command, is_until_or_none}
-use Rattle.rm_machine.specs.Built.{is_built}
-use Rattle.rm_machine.specs.Nature.{nature_of}
+use Rattle.rm_machine.specs.{Built.{is_built}, Nature.{nature_of}}
 use Rattle.rm_tool.specs.Block.{with_until}
 
 -- it is built

@@ -1,36 +1,21 @@
 -- One statement is served.
-use Rattle.std.proofs.Common.{◌≡◌, ◌+◌, ◌∙◌, ◌||◌, inl, ℕ, suc, List, Option, Some, None, Result, Ok, Err, IfOk, OnErr, IfSome, Bool, true, false, inr, refl, ap, sym, subst, arith}
 use Rattle.std.specs.List.{list_all}
+use Rattle.std.proofs.Common.{◌≡◌, ◌+◌, ◌∙◌, ◌||◌, inl, ℕ, suc, List, Option, Some, None, Result, Ok, Err, IfOk, OnErr, IfSome, Bool, true, false, inr, refl, ap, sym, subst, arith}
 use Rattle.std.proofs.Math.Bool.{or-false}
-use Rattle.rm_base.specs.Store.{Held, Answers, Both, IsLater}
-use Rattle.rm_base.specs.declared.refusal.Refusal.TheVariants.{Rm01}
+use Rattle.rm_base.specs.{Store.{Held, Answers, Both, IsLater}, declared.refusal.Refusal.TheVariants.{Rm01}}
 use Rattle.rm_catalog.specs.declared.record.Record.{Record}
-use Rattle.rm_lang_statement.specs.declared.command.Command.{Command}
-use Rattle.rm_lang_statement.specs.declared.command.Inner.{Inner}
-use Rattle.rm_lang_statement.specs.declared.command.Statement.{Statement}
+use Rattle.rm_lang_statement.specs.declared.command.{Command.{Command}, Inner.{Inner}, Statement.{Statement}}
 use Rattle.rm_lang_statement.specs.declared.command.Statement.TheVariants.{Plain, Run as Block}
-use Rattle.rm_tool.specs.Block.{unset}
-use Rattle.rm_tool.specs.Built.{statement_built_at}
-use Rattle.rm_tool.specs.Comes.{AtHand, CommandComes, StatementComes, at_hand}
-use Rattle.rm_lang_token.specs.declared.token.Token.{Token}
-use Rattle.rm_report.specs.declared.line.Reply.{Reply}
-use Rattle.rm_report.specs.Reply.{refused_by}
-use Rattle.rm_machine.specs.Machine.{IsSoundMachine, Machine}
-use Rattle.rm_machine.specs.Rest.{at_rest}
-use Rattle.rm_machine_laws.specs.Holds.{Holds, HoldsRest, View}
-use Rattle.rm_machine_laws.specs.Saves.{applies}
-use Rattle.rm_machine_laws.specs.Steps.{Steps}
-use Rattle.rm_machine_laws.specs.Stopped.{Stops}
-use Rattle.rm_machine_laws.proofs.Every.{every-loose}
-use Rattle.rm_machine_laws.proofs.Halting.{rests, stopped-after}
-use Rattle.rm_machine.specs.Laws.{only_tells}
-use Rattle.rm_tool_opening.specs.Untouched.{AreSame, IsUntouched, is_quiet}
-use Rattle.rm_tool.proofs.Quiet.{telling-quiet}
-use Rattle.rm_tool.specs.Quiet.{is_quiet_statement, only_tells_inner, only_tells_statement}
-use Rattle.rm_tool.specs.Run.{StepOf, IsHonestWithin, Watch}
+use Rattle.rm_tool.specs.{Block.{unset}, Built.{statement_built_at}, Comes.{AtHand, CommandComes, StatementComes, at_hand}}
+use Rattle.rm_tool.specs.{Quiet.{is_quiet_statement, only_tells_inner, only_tells_statement}, Run.{StepOf, IsHonestWithin, Watch}}
 use Rattle.rm_tool.specs.Serving.{HasPassed, IsPast, IsServed, IsCut, untouched, stopped, inside, IsCutShort, RunComes, RunSteps, RunStops, StatementSteps}
-use Rattle.rm_tool.proofs.Blocks.{block-leaves}
-use Rattle.rm_tool.proofs.Runs.{answers_from}
+use Rattle.rm_tool.proofs.{Quiet.{telling-quiet}, Blocks.{block-leaves}, Runs.{answers_from}}
+use Rattle.rm_lang_token.specs.declared.token.Token.{Token}
+use Rattle.rm_report.specs.{Reply.{refused_by}, declared.line.Reply.{Reply}}
+use Rattle.rm_machine.specs.{Machine.{IsSoundMachine, Machine}, Rest.{at_rest}, Laws.{only_tells}}
+use Rattle.rm_machine_laws.specs.{Holds.{Holds, HoldsRest, View}, Saves.{applies}, Steps.{Steps}, Stopped.{Stops}}
+use Rattle.rm_machine_laws.proofs.{Every.{every-loose}, Halting.{rests, stopped-after}}
+use Rattle.rm_tool_opening.specs.Untouched.{AreSame, IsUntouched, is_quiet}
 
 pub ok-both : {A E : Type 0} (P Q R : A → Type 0) → ((a : A) → P a → Q a → R a) → (r : Result A E) → IfOk r P → IfOk r Q → IfOk r R
 ok-both P Q R f (Ok a) h k = f a h k

@@ -1,18 +1,11 @@
 -- What the status of a run tells of how it ended.
-use Rattle.std.proofs.Common.{◌≡◌, ◌∙◌, ◌==◌, inl, inr, ℕ, Bool, true, false, List, [], ◌∷◌, Option, Some, None, Result, Ok, Err, Contains, if◌then◌else◌, lit<, refl, ap, sym, subst}
 use Rattle.std.specs.Prelude.{IfErr, IfOk, OnOk, IsErrOf}
-use Rattle.rm_base.specs.Outside.{Rose}
-use Rattle.rm_base.specs.Store.{Held}
+use Rattle.std.proofs.Common.{◌≡◌, ◌∙◌, ◌==◌, inl, inr, ℕ, Bool, true, false, List, [], ◌∷◌, Option, Some, None, Result, Ok, Err, Contains, if◌then◌else◌, lit<, refl, ap, sym, subst}
+use Rattle.rm_base.specs.{Outside.{Rose}, Store.{Held}}
 use Rattle.rm_catalog.specs.declared.record.Record.{Record}
-use Rattle.rm_tool_opening.specs.Opens.{AreValid}
-use Rattle.rm_tool.specs.Early.{Faults, Leaves, RoseFor, status_for, status_of}
-use Rattle.rm_tool.specs.Run.{Watch}
-use Rattle.rm_tool.specs.Session.{IsDone, IsEarly, NoneRan}
-use Rattle.rm_tool_opening.specs.Opening.{TellsValid}
-use Rattle.rm_tool.specs.Words.{accepts}
-use Rattle.rm_tool.specs.declared.early.Early.{Early}
-use Rattle.rm_tool.specs.declared.early.Early.TheVariants as early
-use Rattle.rm_tool_opening.proofs.Source.{none-bad, told-valid}
+use Rattle.rm_tool_opening.{specs.{Opens.{AreValid}, Opening.{TellsValid}}, proofs.Source.{none-bad, told-valid}}
+use Rattle.rm_tool.specs.{Early.{Faults, Leaves, RoseFor, status_for, status_of}, Run.{Watch}, Session.{IsDone, IsEarly, NoneRan}}
+use Rattle.rm_tool.specs.{Words.{accepts}, declared.early.Early.{Early, TheVariants as early}}
 
 -- how a run ended that has this status
 abbrev pub of_status : ℕ → Option Early

@@ -1,14 +1,11 @@
 -- What the tally of replies tells.
+use Rattle.std.specs.{Fmt.{decimal}, Prelude.{if◌then◌else◌}, List.{list_any}}
 use Rattle.std.proofs.Common.{◌≡◌, ◌≤◌, ◌+◌, ◌∙◌, ◌++◌, ◌∷◌, [], ℕ, Bool, true, false, List, Option, refl, ap, sym, arith, codes, length, lt-ltb, ltb-true, nat_lt}
-use Rattle.std.specs.Fmt.{decimal}
-use Rattle.std.specs.Prelude.{if◌then◌else◌}
-use Rattle.std.specs.List.{list_any}
 use Rattle.std.proofs.lemmas.Bool.{le-ltb}
 use Rattle.rm_machine.specs.declared.state.State.{State}
 use Rattle.rm_report.specs.declared.line.Reply.{Reply}
 use Rattle.rm_tool_opening.specs.Shown.{next_scn, objects_in}
-use Rattle.rm_tool.specs.Drill.{IsTally, capped, drill_line, refusals_told, summary_text}
-use Rattle.rm_tool.specs.declared.drill.Summary.{Summary}
+use Rattle.rm_tool.specs.{Drill.{IsTally, capped, drill_line, refusals_told, summary_text}, declared.drill.Summary.{Summary}}
 use Rattle.rm_tool.specs.declared.tally.Tally.{Tally}
 
 some-capped : (n : ℕ) → nat_lt 0 (capped n) ≡ nat_lt 0 n

@@ -1,34 +1,20 @@
 -- The world is honest along every run whose statements give no name of an object.
+use Rattle.std.specs.List.{list_any}
 use Rattle.std.proofs.Common.{◌≡◌, ◌∙◌, ℕ, List, [], ◌∷◌, ◌++◌, Option, Some, None, IfSome, Bool, true, false, MatchBool, Contains, ap, subst, sym, refl}
 use Rattle.std.proofs.lemmas.Bool.{or_parts}
-use Rattle.std.specs.List.{list_any}
-use Rattle.rm_base.specs.Store.{Answers, Held}
-use Rattle.rm_base.proofs.Members.{none-in}
-use Rattle.rm_lang_statement.specs.declared.command.Command.{Command}
-use Rattle.rm_lang_statement.specs.declared.command.Command.TheVariants.{Cut, Damage, Remove, Rename}
-use Rattle.rm_lang_statement.specs.declared.command.Inner.{Inner}
+use Rattle.rm_base.{specs.Store.{Answers, Held}, proofs.Members.{none-in}}
+use Rattle.rm_lang_statement.specs.declared.command.{Command.{Command, TheVariants.{Cut, Damage, Remove, Rename}}, Inner.{Inner}}
 use Rattle.rm_lang_statement.specs.declared.command.Inner.TheVariants.{SetUntil, AllocateChannel, Plain as PlainInner}
-use Rattle.rm_lang_statement.specs.declared.command.Statement.{Statement}
-use Rattle.rm_lang_statement.specs.declared.command.Statement.TheVariants.{Plain, Run as Block}
-use Rattle.rm_lang_statement.specs.declared.command.Until.{Until}
+use Rattle.rm_lang_statement.specs.declared.command.{Statement.{Statement, TheVariants.{Plain, Run as Block}}, Until.{Until}}
 use Rattle.rm_report.specs.declared.line.Reply.{Reply}
 use Rattle.rm_lang_token.specs.declared.token.Token.{Token}
-use Rattle.rm_machine.specs.Effect.{Outcome, refused, told, done}
-use Rattle.rm_machine.specs.Honest.{IsHonest}
-use Rattle.rm_machine.specs.Machine.{Machine}
-use Rattle.rm_machine.specs.Nature.{gives_name, nature_of}
-use Rattle.rm_machine.specs.Rest.{PartsTell, Rest, Wakes}
-use Rattle.rm_machine.specs.State.{at_moment}
+use Rattle.rm_machine.specs.{Effect.{Outcome, refused, told, done}, Honest.{IsHonest}, Machine.{Machine}, Nature.{gives_name, nature_of}}
+use Rattle.rm_machine.specs.{Rest.{PartsTell, Rest, Wakes}, State.{at_moment}, Step.{StepBy, StepIn, names_in}}
 use Rattle.rm_machine.specs.declared.state.State.{State}
-use Rattle.rm_machine.specs.Step.{StepBy, StepIn, names_in}
-use Rattle.rm_machine_laws.proofs.Agreeing.{untouched-tell}
-use Rattle.rm_machine_laws.specs.Holds.{HoldsRest, nothing}
-use Rattle.rm_machine_laws.specs.Moments.{moment_of}
+use Rattle.rm_machine_laws.{specs.{Holds.{HoldsRest, nothing}, Moments.{moment_of}}, proofs.Agreeing.{untouched-tell}}
 use Rattle.rm_tool.specs.Block.{BlockSteps, InnerStep, IsHonestAt, IsHonestInside, after_inner, unset, with_until}
-use Rattle.rm_tool.specs.Built.{statement_built_at}
-use Rattle.rm_tool.specs.Run.{IsHonestAlong, GiveNoName, StepOf, IsHonestWithin, gives_in, gives_names, past}
-use Rattle.rm_tool.specs.declared.block.Settings.{Settings}
-use Rattle.rm_tool.proofs.Setting.{nature_with}
+use Rattle.rm_tool.specs.{Built.{statement_built_at}, Run.{IsHonestAlong, GiveNoName, StepOf, IsHonestWithin, gives_in, gives_names, past}}
+use Rattle.rm_tool.{specs.declared.block.Settings.{Settings}, proofs.Setting.{nature_with}}
 
 -- a step touches no name but those that its statement gives
 by-outcome : (o : Option State) (m n : Machine) (c : Command) (x : Outcome) (r : Reply) → names_in c ≡ [] → m.touched ≡ [] → StepBy o m c x r n → n.touched ≡ []

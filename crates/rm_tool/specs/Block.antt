@@ -1,25 +1,14 @@
 -- A RUN: its statements, one after another, up to the first that is refused.
 use Rattle.std.specs.Prelude.{ℕ, ◌≡◌, ◌≤◌, ◌+◌, ◌++◌, ◌⊎◌, ◌||◌, nat_lt, if◌then◌else◌, MatchBool, is_some, Bool, true, false, Option, Some, None, List, [], ◌∷◌}
 use Rattle.std.specs.Option.{option_or}
-use Rattle.rm_base.specs.declared.refusal.Limit.TheVariants.{Channels}
-use Rattle.rm_base.specs.declared.refusal.Refusal.TheVariants.{Rm02, Rm11}
-use Rattle.rm_lang_statement.specs.declared.command.Command.{Command}
+use Rattle.rm_base.specs.declared.refusal.{Limit.TheVariants.{Channels}, Refusal.TheVariants.{Rm02, Rm11}}
+use Rattle.rm_lang_statement.specs.{IsCommand.{is_until_or_none}, declared.command.Command.{Command}}
 use Rattle.rm_lang_statement.specs.declared.command.Command.TheVariants.{ArchiveLogCurrent, Backup, BackupFrom, BackupLogs, BlockRecover, CatalogName, ChangeBackup, Corrupt, CreateDatabase, CreateDatafile, Crosscheck, Cut, Damage, DeleteBackup, DeleteExpired, DeleteObsolete, Dump, ListArchived, ListBackup, ListCopy, ListCorruption, ListIncarnation, LoseDatafile, LoseLog, Mount, OpenPlain, OpenResetlogs, Parallelism, Preview, Recover, RecoverCopy, RecoverTest, Remove, Rename, ReportNeedBackup, ReportObsolete, ReportSchema, ResetDatabase, Restore, Retention, ShowAll, SwitchLogfile, SwitchThread, Tracking, ValidateAll, Write}
-use Rattle.rm_lang_statement.specs.declared.command.Inner.{Inner}
-use Rattle.rm_lang_statement.specs.declared.command.Inner.TheVariants.{SetUntil, AllocateChannel, Plain as PlainInner}
+use Rattle.rm_lang_statement.specs.declared.command.Inner.{Inner, TheVariants.{SetUntil, AllocateChannel, Plain as PlainInner}}
 use Rattle.rm_lang_statement.specs.declared.command.Until.{Until}
-use Rattle.rm_lang_statement.specs.IsCommand.{is_until_or_none}
-use Rattle.rm_report.specs.declared.line.Line.TheVariants.{UntilSet, ChannelAllocated}
-use Rattle.rm_report.specs.declared.line.Reply.{Reply}
-use Rattle.rm_report.specs.Reply.{said, refused_by}
-use Rattle.rm_machine.specs.Honest.{IsHonest}
-use Rattle.rm_machine.specs.Machine.{Machine}
-use Rattle.rm_machine.specs.Rest.{Rest, at_rest}
-use Rattle.rm_machine.specs.Step.{Step}
-use Rattle.rm_machine.specs.declared.state.State.{State}
-use Rattle.rm_machine_laws.specs.Moments.{moment_of}
-use Rattle.rm_machine_laws.specs.Saves.{applies}
-use Rattle.rm_machine_laws.specs.Stopped.{Stopped}
+use Rattle.rm_report.specs.{Reply.{said, refused_by}, declared.line.{Line.TheVariants.{UntilSet, ChannelAllocated}, Reply.{Reply}}}
+use Rattle.rm_machine.specs.{Honest.{IsHonest}, Machine.{Machine}, Rest.{Rest, at_rest}, Step.{Step}, declared.state.State.{State}}
+use Rattle.rm_machine_laws.specs.{Moments.{moment_of}, Saves.{applies}, Stopped.{Stopped}}
 use Rattle.rm_tool.specs.declared.block.Settings.{Settings}
 
 -- at the start of a RUN nothing is set

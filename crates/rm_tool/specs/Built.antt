@@ -1,10 +1,7 @@
 -- The statements that the program answers by steps.
-use Rattle.std.specs.Prelude.{if◌then◌else◌, Option, Some, None, List, Bool, true}
-use Rattle.std.specs.List.{list_all}
-use Rattle.rm_lang_statement.specs.declared.command.Inner.{Inner}
-use Rattle.rm_lang_statement.specs.declared.command.Inner.TheVariants.{AllocateChannel, Plain as PlainInner, SetUntil}
-use Rattle.rm_lang_statement.specs.declared.command.Statement.{Statement}
-use Rattle.rm_lang_statement.specs.declared.command.Statement.TheVariants.{Plain, Run}
+use Rattle.std.specs.{Prelude.{if◌then◌else◌, Option, Some, None, List, Bool, true}, List.{list_all}}
+use Rattle.rm_lang_statement.specs.declared.command.Inner.{Inner, TheVariants.{AllocateChannel, Plain as PlainInner, SetUntil}}
+use Rattle.rm_lang_statement.specs.declared.command.Statement.{Statement, TheVariants.{Plain, Run}}
 use Rattle.rm_lang_reading.specs.Language.{statement_at}
 use Rattle.rm_machine.specs.Built.{is_built}
 use Rattle.rm_lang_token.specs.declared.token.Token.{Token}

@@ -1,28 +1,17 @@
 -- What the statements of a script come to by what is at hand, whatever the store and the keeper hold.
 use Rattle.std.specs.Prelude.{ℕ, ◌≡◌, ◌||◌, MatchBool, Bool, true, false, Option, Some, None, IfSome, List, [], ◌∷◌}
-use Rattle.rm_base.specs.Store.{Answers, Held}
-use Rattle.rm_base.specs.declared.refusal.Refusal.TheVariants.{Rm01}
+use Rattle.rm_base.specs.{Store.{Answers, Held}, declared.refusal.Refusal.TheVariants.{Rm01}}
 use Rattle.rm_catalog.specs.declared.record.Record.{Record}
-use Rattle.rm_lang_statement.specs.declared.command.Command.{Command}
-use Rattle.rm_lang_statement.specs.declared.command.Inner.{Inner}
+use Rattle.rm_lang_statement.specs.declared.command.{Command.{Command}, Inner.{Inner}}
 use Rattle.rm_lang_statement.specs.declared.command.Inner.TheVariants.{AllocateChannel, Plain as PlainInner, SetUntil}
-use Rattle.rm_lang_statement.specs.declared.command.Statement.{Statement}
-use Rattle.rm_lang_statement.specs.declared.command.Statement.TheVariants.{Plain, Run as Block}
+use Rattle.rm_lang_statement.specs.declared.command.Statement.{Statement, TheVariants.{Plain, Run as Block}}
 use Rattle.rm_lang_token.specs.declared.token.Token.{Token}
-use Rattle.rm_machine.specs.Marks.{lacks_ids}
-use Rattle.rm_machine.specs.declared.state.State.{State}
-use Rattle.rm_machine_laws.specs.Holds.{View}
-use Rattle.rm_machine_laws.specs.Moments.{moment_of}
-use Rattle.rm_machine_laws.specs.Refused.{AnsweredBy, refusal_in}
-use Rattle.rm_machine_laws.specs.Saves.{applies}
-use Rattle.rm_report.specs.Reply.{refused_by, said}
-use Rattle.rm_report.specs.declared.line.Reply.{Reply}
-use Rattle.rm_tool_opening.specs.ComesOut.{ComesOut}
-use Rattle.rm_tool_opening.specs.Untouched.{is_quiet}
+use Rattle.rm_machine.specs.{Marks.{lacks_ids}, declared.state.State.{State}}
+use Rattle.rm_machine_laws.specs.{Holds.{View}, Moments.{moment_of}, Refused.{AnsweredBy, refusal_in}, Saves.{applies}}
+use Rattle.rm_report.specs.{Reply.{refused_by, said}, declared.line.Reply.{Reply}}
+use Rattle.rm_tool_opening.specs.{ComesOut.{ComesOut}, Untouched.{is_quiet}}
 use Rattle.rm_tool.specs.Block.{after_inner, channel_reply, inner_applies, joined, set_reply, unset, with_until}
-use Rattle.rm_tool.specs.Built.{statement_built_at}
-use Rattle.rm_tool.specs.Run.{past}
-use Rattle.rm_tool.specs.declared.block.Settings.{Settings}
+use Rattle.rm_tool.specs.{Built.{statement_built_at}, Run.{past}, declared.block.Settings.{Settings}}
 
 -- what is at hand: what the store and the keeper hold, where they tell it, and the database, if there is one
 pub record AtHand : Type 0 where

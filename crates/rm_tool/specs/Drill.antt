@@ -1,15 +1,10 @@
 -- The drill: a script of its own, and one line in the place of all replies.
 use Rattle.std.specs.Prelude.{ℕ, ◌≡◌, ◌++◌, ◌∷◌, [], Option, Some, None, List, codes, filter, fold, if◌then◌else◌, length, nat_lt, sum_by}
-use Rattle.std.specs.Fmt.{decimal}
-use Rattle.std.specs.Borrow.{Bor}
-use Rattle.rm_report.specs.declared.line.Line.{Line}
-use Rattle.rm_report.specs.declared.line.Line.TheVariants.{ThreadScn, Written}
-use Rattle.rm_report.specs.declared.line.Reply.{Reply}
+use Rattle.std.specs.{Fmt.{decimal}, Borrow.{Bor}}
+use Rattle.rm_report.specs.declared.line.{Line.{Line, TheVariants.{ThreadScn, Written}}, Reply.{Reply}}
 use Rattle.rm_machine.specs.declared.state.State.{State}
 use Rattle.rm_tool_opening.specs.Shown.{next_scn, objects_in}
-use Rattle.rm_tool.specs.Run.{replies_text}
-use Rattle.rm_tool.specs.declared.drill.Summary.{Summary}
-use Rattle.rm_tool.specs.declared.tally.Tally.{Tally}
+use Rattle.rm_tool.specs.{Run.{replies_text}, declared.{drill.Summary.{Summary}, tally.Tally.{Tally}}}
 
 -- a line tells of a write that took an SCN
 abbrev pub writes_in : Line → ℕ

@@ -1,24 +1,13 @@
 -- The machine's run over the statements of a script, and the clock's answers to them.
-use Rattle.std.specs.Prelude.{ℕ, suc, ◌≡◌, ◌+◌, ◌||◌, Bool, false, Option, Some, None, IfSome, List, [], ◌∷◌}
-use Rattle.std.specs.List.{flat_map, list_any}
-use Rattle.rm_base.specs.Store.{Answers}
-use Rattle.rm_base.specs.declared.refusal.Refusal.TheVariants.{Rm01}
+use Rattle.std.specs.{Prelude.{ℕ, suc, ◌≡◌, ◌+◌, ◌||◌, Bool, false, Option, Some, None, IfSome, List, [], ◌∷◌}, List.{flat_map, list_any}}
+use Rattle.rm_base.specs.{Store.{Answers}, declared.refusal.Refusal.TheVariants.{Rm01}}
 use Rattle.rm_lang_token.specs.declared.token.Token.{Token}
-use Rattle.rm_lang_statement.specs.declared.command.Inner.{Inner}
-use Rattle.rm_lang_statement.specs.declared.command.Inner.TheVariants.{AllocateChannel, Plain as PlainInner, SetUntil}
-use Rattle.rm_lang_statement.specs.declared.command.Statement.{Statement}
-use Rattle.rm_lang_statement.specs.declared.command.Statement.TheVariants.{Plain, Run as Block}
-use Rattle.rm_tool.specs.Block.{BlockSteps, IsHonestInside, unset}
-use Rattle.rm_tool.specs.Built.{statement_built_at}
-use Rattle.rm_report.specs.declared.line.Reply.{Reply}
-use Rattle.rm_report.specs.Reply.{refused_by}
-use Rattle.rm_report.specs.Text.{reply_text}
-use Rattle.rm_machine.specs.Honest.{IsHonest}
-use Rattle.rm_machine.specs.Machine.{Machine}
-use Rattle.rm_machine.specs.Nature.{gives_name, nature_of}
-use Rattle.rm_machine.specs.Step.{Step}
-use Rattle.rm_machine_laws.specs.Moments.{moment_of}
-use Rattle.rm_machine_laws.specs.Saves.{applies}
+use Rattle.rm_lang_statement.specs.declared.command.Inner.{Inner, TheVariants.{AllocateChannel, Plain as PlainInner, SetUntil}}
+use Rattle.rm_lang_statement.specs.declared.command.Statement.{Statement, TheVariants.{Plain, Run as Block}}
+use Rattle.rm_tool.specs.{Block.{BlockSteps, IsHonestInside, unset}, Built.{statement_built_at}}
+use Rattle.rm_report.specs.{Reply.{refused_by}, Text.{reply_text}, declared.line.Reply.{Reply}}
+use Rattle.rm_machine.specs.{Honest.{IsHonest}, Machine.{Machine}, Nature.{gives_name, nature_of}, Step.{Step}}
+use Rattle.rm_machine_laws.specs.{Moments.{moment_of}, Saves.{applies}}
 
 -- A statement of this line, where the clock answers so: one that is not of the grammar, or not built, is refused
 -- and changes nothing, a command is a step of the machine at its moment, and a RUN is the steps of its statements. And

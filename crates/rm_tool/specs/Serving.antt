@@ -1,38 +1,22 @@
 -- What serving the statements of a script leaves.
 use Rattle.std.specs.Prelude.{ℕ, ◌≡◌, ◌<◌, ◌+◌, ◌++◌, ◌⊎◌, ◌||◌, Bool, true, false, Option, Some, None, IfSome, List, [], ◌∷◌, slice_get, take, length, All}
 use Rattle.std.specs.List.{list_any}
-use Rattle.rm_base.specs.Outside.{Appends}
-use Rattle.rm_base.specs.Store.{Held, Answers, Both}
+use Rattle.rm_base.specs.{Outside.{Appends}, Store.{Held, Answers, Both}}
 use Rattle.rm_catalog.specs.declared.record.Record.{Record}
-use Rattle.rm_commit.specs.declared.commit.Stop.{Stop}
-use Rattle.rm_commit.specs.declared.commit.Stop.TheVariants as stop
-use Rattle.rm_lang_statement.specs.declared.command.Command.{Command}
-use Rattle.rm_lang_statement.specs.declared.command.Inner.{Inner}
-use Rattle.rm_lang_statement.specs.declared.command.Statement.{Statement}
+use Rattle.rm_commit.specs.declared.commit.Stop.{Stop, TheVariants as stop}
+use Rattle.rm_lang_statement.specs.declared.command.{Command.{Command}, Inner.{Inner}, Statement.{Statement}}
 use Rattle.rm_lang_statement.specs.declared.command.Statement.TheVariants.{Plain, Run as Block}
 use Rattle.rm_tool.specs.Block.{BlockLeaves, BlockSteps, InnerLeaves, InnerStep, IsHonestAt, IsHonestInside, unset}
-use Rattle.rm_tool.specs.Built.{statement_built_at}
-use Rattle.rm_tool.specs.declared.block.Settings.{Settings}
-use Rattle.rm_lang_token.specs.declared.token.Token.{Token}
-use Rattle.rm_report.specs.declared.line.Reply.{Reply}
-use Rattle.rm_report.specs.Reply.{IsFlagged}
-use Rattle.rm_report.specs.Text.{reply_text}
-use Rattle.rm_machine.specs.Machine.{Machine}
-use Rattle.rm_machine.specs.Rest.{Rest, at_rest}
-use Rattle.rm_machine.specs.declared.state.State.{State}
-use Rattle.rm_machine_laws.specs.Holds.{Holds, HoldsRest, Stands, View}
-use Rattle.rm_machine_laws.specs.Moments.{moment_of}
-use Rattle.rm_machine_laws.specs.Saves.{IsEnded}
-use Rattle.rm_machine_laws.specs.Stopped.{IsLeft, Stopped}
-use Rattle.rm_tool.specs.declared.session.Halt.{Halt}
-use Rattle.rm_tool.specs.declared.session.Halt.TheVariants as halt
-use Rattle.rm_tool.specs.declared.tally.Tally.{Tally}
-use Rattle.rm_tool_opening.specs.Saved.{EndsOut}
-use Rattle.rm_tool_opening.specs.Untouched.{AreSame, IsUntouched}
-use Rattle.rm_tool.specs.Comes.{AtHand, BlockComes, ComeWith, StatementComes, at_hand}
+use Rattle.rm_tool.specs.{Built.{statement_built_at}, Comes.{AtHand, BlockComes, ComeWith, StatementComes, at_hand}}
 use Rattle.rm_tool.specs.Quiet.{are_quiet, is_quiet_statement, only_tells_statement}
 use Rattle.rm_tool.specs.Drill.{IsTally, drill_line, output_of, output_so_far}
 use Rattle.rm_tool.specs.Run.{StatementStep, Run, RunsWhereHonest, IsHonestAlong, IsHonestWithin, past, behind, AreToCome, Watch, WasAskedFor, asks, replies_text}
+use Rattle.rm_tool.specs.declared.{block.Settings.{Settings}, session.Halt.{Halt, TheVariants as halt}, tally.Tally.{Tally}}
+use Rattle.rm_lang_token.specs.declared.token.Token.{Token}
+use Rattle.rm_report.specs.{Reply.{IsFlagged}, Text.{reply_text}, declared.line.Reply.{Reply}}
+use Rattle.rm_machine.specs.{Machine.{Machine}, Rest.{Rest, at_rest}, declared.state.State.{State}}
+use Rattle.rm_machine_laws.specs.{Holds.{Holds, HoldsRest, Stands, View}, Moments.{moment_of}, Saves.{IsEnded}, Stopped.{IsLeft, Stopped}}
+use Rattle.rm_tool_opening.specs.{Saved.{EndsOut}, Untouched.{AreSame, IsUntouched}}
 
 -- what ends a session where the site was stopped
 abbrev pub halt_of : Stop → Halt

@@ -1,19 +1,13 @@
 -- What a whole call of `run` leaves.
 use Rattle.std.specs.Prelude.{ℕ, ◌≡◌, ◌⊎◌, ◌<◌, Bool, false, Option, Some, None, List, [], ◌∷◌, ◌++◌, codes, if◌then◌else◌, IfSome, length}
-use Rattle.rm_base.specs.Outside.{HasTaken}
-use Rattle.rm_base.specs.Store.{Held}
+use Rattle.rm_base.specs.{Outside.{HasTaken}, Store.{Held}}
 use Rattle.rm_catalog.specs.declared.record.Record.{Record}
 use Rattle.rm_drill.specs.Script.{script_text}
-use Rattle.rm_lang_token.specs.Statements.{statements}
-use Rattle.rm_lang_token.specs.declared.token.Token.{Token}
+use Rattle.rm_lang_token.specs.{Statements.{statements}, declared.token.Token.{Token}}
 use Rattle.rm_machine.specs.declared.state.State.{State}
 use Rattle.rm_machine_laws.specs.Holds.{View}
-use Rattle.rm_tool_opening.specs.Opens.{Shows}
-use Rattle.rm_tool_opening.specs.Untouched.{AreSame}
-use Rattle.rm_tool.specs.Run.{Watch}
-use Rattle.rm_tool.specs.Serving.{Closes, EndsInOutput, EndsMidway}
-use Rattle.rm_tool.specs.Words.{accepts, drill_of}
-use Rattle.rm_tool_opening.specs.Opening.{BeginsBadRecord, FromRest, TellsValid}
+use Rattle.rm_tool_opening.specs.{Opens.{Shows}, Untouched.{AreSame}, Opening.{BeginsBadRecord, FromRest, TellsValid}}
+use Rattle.rm_tool.specs.{Run.{Watch}, Serving.{Closes, EndsInOutput, EndsMidway}, Words.{accepts, drill_of}}
 use Rattle.rm_tool_ends.specs.Writing.{WritesFront, bad_words}
 
 -- the line of status 8

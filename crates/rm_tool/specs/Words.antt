@@ -1,6 +1,5 @@
 -- The words of the program.
-use Rattle.std.specs.Prelude.{ℕ, ◌≡◌, is_some, Bool, List, Option, Some}
-use Rattle.std.specs.Option.{option_and_then, option_map}
+use Rattle.std.specs.{Prelude.{ℕ, ◌≡◌, is_some, Bool, List, Option, Some}, Option.{option_and_then, option_map}}
 use Rattle.rm_lang_words.specs.Words.{said}
 
 -- the words say a store and a catalog, and channels, a drill and a database or none

@@ -6,10 +6,8 @@ ghost use Rattle.rm_commit.specs.declared.commit.Stop.TheVariants.{StoreFault, K
 ghost use Rattle.rm_lang_statement.specs.IsCommand.{is_inner};
 ghost use Rattle.rm_report.specs.Reply.{HasDates, IsFlagged, said};
 ghost use Rattle.rm_tool_opening.specs.Untouched.{AreSame, IsUntouched};
-ghost use Rattle.rm_tool.specs.Block.{AreSet, after_inner, channel_reply, channels_of, inner_applies, set_reply};
-ghost use Rattle.rm_tool.specs.Built.{is_built_inner};
-ghost use Rattle.rm_tool.specs.Comes.{InnerComes, at_hand};
-ghost use Rattle.rm_tool.specs.Quiet.{only_tells_inner};
+ghost use Rattle.rm_tool.specs.{Block.{AreSet, after_inner, channel_reply, channels_of, inner_applies, set_reply}, Built.{is_built_inner}};
+ghost use Rattle.rm_tool.specs.{Comes.{InnerComes, at_hand}, Quiet.{only_tells_inner}};
 ghost use Rattle.rm_tool.specs.Serving.{InnerSteps, InnerStops, RunComes, RunSteps, RunStops};
 
 use crate::untils::with_until;

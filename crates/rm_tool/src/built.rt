@@ -1,6 +1,5 @@
 //! The statements that the program answers by steps.
-ghost use Rattle.std.specs.Prelude.{◌≡◌, IfOk, IfSome, IsTrue};
-ghost use Rattle.std.specs.List.{list_all};
+ghost use Rattle.std.specs.{Prelude.{◌≡◌, IfOk, IfSome, IsTrue}, List.{list_all}};
 ghost use Rattle.rm_lang_statement.specs.IsCommand.{is_statement};
 ghost use Rattle.rm_tool.specs.Built.{is_built_inner, is_built_statement, statement_built_at};
 

@@ -1,6 +1,5 @@
 //! The line of a drill.
-ghost use Rattle.std.specs.Prelude.{◌≤◌, ◌++◌, OnErr, OnOk};
-ghost use Rattle.std.specs.Fmt.{decimal};
+ghost use Rattle.std.specs.{Prelude.{◌≤◌, ◌++◌, OnErr, OnOk}, Fmt.{decimal}};
 ghost use Rattle.rm_base.specs.Outside.{Appends, Rose};
 ghost use Rattle.rm_tool_ends.specs.Writing.{WritesFront};
 ghost use Rattle.rm_tool.specs.Drill.{parts_text, summary_text};

@@ -1,9 +1,7 @@
 //! All that a source gives, and the script of a session.
 ghost use Rattle.std.specs.Prelude.{ℕ, ◌≡◌, ◌+◌, ◌<◌, ◌≤◌, length, true, None, IfErr, IfOk, IfSome, IsSome, OnOk, IsErrOf};
 ghost use Rattle.rm_base.specs.Outside.{HasTaken, Rose};
-ghost use Rattle.rm_tool.specs.Early.{EndsAtScript, IsOfLong, RoseFor};
-ghost use Rattle.rm_tool.specs.Ends.{Counted, TakesMany};
-ghost use Rattle.rm_tool.specs.Session.{ScriptOf};
+ghost use Rattle.rm_tool.specs.{Early.{EndsAtScript, IsOfLong, RoseFor}, Ends.{Counted, TakesMany}, Session.{ScriptOf}};
 
 use crate::early::Early;
 use rm_base::{Failed, NoMemory, Sink, Source};

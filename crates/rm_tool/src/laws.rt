@@ -2,8 +2,7 @@
 ghost use Rattle.std.specs.Prelude.{ℕ, ◌≡◌, [], List, Some};
 ghost use Rattle.rm_base.specs.Store.{Answers, Held};
 ghost use Rattle.rm_machine_laws.specs.Holds.{HoldsRest, nothing};
-ghost use Rattle.rm_machine.specs.Machine.{Machine};
-ghost use Rattle.rm_machine.specs.Rest.{PartsTell, Rest, Wakes};
+ghost use Rattle.rm_machine.specs.{Machine.{Machine}, Rest.{PartsTell, Rest, Wakes}};
 ghost use Rattle.rm_report.specs.declared.line.Reply.{Reply};
 ghost use Rattle.rm_lang_token.specs.declared.token.Token.{Token};
 ghost use Rattle.rm_tool.specs.Run.{IsHonestAlong, GiveNoName};

@@ -2,12 +2,9 @@
 ghost use Rattle.std.specs.Prelude.{◌≡◌, ◌<◌, ◌∷◌, [], Contains, IfErr, IfOk, IfSome, IsErrOf, IsSome, OnOk, Some, None, List, length, true, false};
 ghost use Rattle.rm_base.specs.Outside.{Appends, Rose};
 ghost use Rattle.rm_catalog.specs.declared.record.Record.{Record};
-ghost use Rattle.rm_tool_opening.specs.Opens.{AreValid};
-ghost use Rattle.rm_tool.specs.Early.{Leaves, RoseFor, status_of as the_status_of};
-ghost use Rattle.rm_tool.specs.Ends.{Counted, TakesMany};
-ghost use Rattle.rm_tool.specs.Run.{watch};
+ghost use Rattle.rm_tool_opening.specs.{Opens.{AreValid}, Opening.{WritesBadRecord, TellsValid}};
+ghost use Rattle.rm_tool.specs.{Early.{Leaves, RoseFor, status_of as the_status_of}, Ends.{Counted, TakesMany}, Run.{watch}};
 ghost use Rattle.rm_tool.specs.Session.{HasScript, Finishes, EndsEarly, WritesPart, IsDone, IsEarly, NoneRan, over_long};
-ghost use Rattle.rm_tool_opening.specs.Opening.{WritesBadRecord, TellsValid};
 ghost use Rattle.rm_tool.specs.Words.{accepts, drill_of};
 ghost use Rattle.rm_tool_ends.specs.Writing.{bad_words};
 

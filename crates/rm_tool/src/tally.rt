@@ -1,6 +1,5 @@
 //! What the replies of a session come to.
-ghost use Rattle.std.specs.Prelude.{◌≡◌, ◌∷◌, ◌++◌, [], List, sum_by};
-ghost use Rattle.std.specs.List.{list_any};
+ghost use Rattle.std.specs.{Prelude.{◌≡◌, ◌∷◌, ◌++◌, [], List, sum_by}, List.{list_any}};
 ghost use Rattle.rm_report.specs.declared.line.Reply.{Reply};
 ghost use Rattle.rm_tool.specs.Drill.{IsTally, capped, writes_in};
 

@@ -1,6 +1,5 @@
 //! The until of a RUN in the commands that take one.
-ghost use Rattle.std.specs.Prelude.{◌≡◌, IfOk};
-ghost use Rattle.std.specs.Option.{option_or};
+ghost use Rattle.std.specs.{Prelude.{◌≡◌, IfOk}, Option.{option_or}};
 ghost use Rattle.rm_tool.specs.Block.{with_until};
 
 use rm_base::{NoMemory, Text};

@@ -1,7 +1,6 @@
 //! The words of the program.
 ghost use Rattle.std.specs.Prelude.{◌≡◌, ◌≤◌, IfErr, IfOk, IfSome, OnOk, true};
-ghost use Rattle.rm_tool.specs.Early.{EndsAtWords, RoseAtSink};
-ghost use Rattle.rm_tool.specs.Words.{SaysChannels, accepts, drill_of};
+ghost use Rattle.rm_tool.specs.{Early.{EndsAtWords, RoseAtSink}, Words.{SaysChannels, accepts, drill_of}};
 
 use crate::early::Early;
 use rm_base::{Sink, Text};

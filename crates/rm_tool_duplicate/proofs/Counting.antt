@@ -1,19 +1,11 @@
 -- How many datafiles exist at a target: as many as there are numbers of them.
-use Rattle.std.proofs.Common.{◌≡◌, ◌<◌, ◌≤◌, ◌+◌, ◌-◌, ◌++◌, ◌∙◌, ℕ, zero, suc, Bool, true, false, cond, List, [], ◌∷◌, Some, get_or, length, take, refl, ap, sym, subst, arith}
 use Rattle.std.specs.Prelude.{count_by, filter}
-use Rattle.std.proofs.Math.Seq.{take-length}
-use Rattle.std.proofs.lemmas.List.{length-append}
-use Rattle.std.proofs.lemmas.List.Filters.{length-filter_more}
-use Rattle.std.proofs.lemmas.List.Sums.{length-filter}
+use Rattle.std.proofs.Common.{◌≡◌, ◌<◌, ◌≤◌, ◌+◌, ◌-◌, ◌++◌, ◌∙◌, ℕ, zero, suc, Bool, true, false, cond, List, [], ◌∷◌, Some, get_or, length, take, refl, ap, sym, subst, arith}
+use Rattle.std.proofs.{Math.Seq.{take-length}, lemmas.List.{length-append, Filters.{length-filter_more}, Sums.{length-filter}}}
 use Rattle.std.proofs.lemmas.Option.{slice_get-get_or, slice_get_within}
-use Rattle.rm_apply.specs.Files.{AreExactly}
-use Rattle.rm_apply.proofs.Numbers.{Below, all_numbers, one_more, one_past}
-use Rattle.rm_apply.proofs.Unique.{same_members}
+use Rattle.rm_apply.{specs.Files.{AreExactly}, proofs.{Numbers.{Below, all_numbers, one_more, one_past}, Unique.{same_members}}}
 use Rattle.rm_base.proofs.Members.{none-in}
-use Rattle.rm_history.specs.Tree.{IsThere}
-use Rattle.rm_history.specs.World.{exists, file_of}
-use Rattle.rm_history.specs.declared.world.Datafile.{Datafile}
-use Rattle.rm_history.specs.declared.world.World.{World}
+use Rattle.rm_history.specs.{Tree.{IsThere}, World.{exists, file_of}, declared.world.{Datafile.{Datafile}, World.{World}}}
 use Rattle.rm_history.proofs.Worlds.{file-there}
 use Rattle.rm_machine.proofs.Numbers.{file-at}
 use Rattle.rm_plan.specs.Plan.{IsFileTarget}

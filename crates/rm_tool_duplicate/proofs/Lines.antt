@@ -1,13 +1,11 @@
 -- The lines of a duplicate have no date.
-use Rattle.std.proofs.Common.{◌+◌, ◌++◌, ℕ, List, [], ◌∷◌, All, length, map}
-use Rattle.std.specs.List.{enumerate_from}
+use Rattle.std.{specs.List.{enumerate_from}, proofs.Common.{◌+◌, ◌++◌, ℕ, List, [], ◌∷◌, All, length, map}}
 use Rattle.std.proofs.lemmas.List.Elements.{All-append, All-cons, All-nil}
 use Rattle.rm_base.specs.declared.kinds.Bad.{Bad}
 use Rattle.rm_dup.specs.declared.database.Duplicate.{Duplicate}
 use Rattle.rm_lang_words.specs.Duplicate.{DuplicateSaid}
 use Rattle.rm_machine.specs.Recovery.{skipped_lines}
-use Rattle.rm_report.specs.Reply.{LineHasDate}
-use Rattle.rm_report.specs.declared.line.Line.TheVariants.{DuplicatedDatabase, Skipped}
+use Rattle.rm_report.specs.{Reply.{LineHasDate}, declared.line.Line.TheVariants.{DuplicatedDatabase, Skipped}}
 use Rattle.rm_tool_duplicate.specs.Duplicated.{file_line, file_lines, lines_of}
 
 skipped-dated : (xs : List (ℕ × Bad)) → All LineHasDate (skipped_lines xs)

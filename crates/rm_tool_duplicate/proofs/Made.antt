@@ -1,25 +1,18 @@
 -- What the duplicate of a source is, of the calls that made it.
-use Rattle.std.proofs.Common.{◌≡◌, ◌∙◌, ◌≤◌, ◌<◌, ◌^◌, ℕ, All, List, Option, Some, None, Result, Ok, Err, IfOk, ap, sym, subst}
 use Rattle.std.specs.Prelude.{IfErr}
+use Rattle.std.proofs.Common.{◌≡◌, ◌∙◌, ◌≤◌, ◌<◌, ◌^◌, ℕ, All, List, Option, Some, None, Result, Ok, Err, IfOk, ap, sym, subst}
 use Rattle.rm_base.specs.declared.refusal.Refusal.{Refusal}
-use Rattle.rm_catalog.specs.Rules.{IsCatalog}
-use Rattle.rm_catalog.specs.declared.record.Record.{Record}
-use Rattle.rm_catalog_typed.proofs.Records.{world-told}
-use Rattle.rm_catalog_typed.specs.TypedCatalog.{records_of}
+use Rattle.rm_catalog.specs.{Rules.{IsCatalog}, declared.record.Record.{Record}}
+use Rattle.rm_catalog_typed.{specs.TypedCatalog.{records_of}, proofs.Records.{world-told}}
 use Rattle.rm_commit.specs.declared.commit.Stop.{Stop}
-use Rattle.rm_dup.specs.Duplicate.{IsDuplicate}
-use Rattle.rm_dup.specs.declared.database.Duplicate.{Duplicate}
+use Rattle.rm_dup.specs.{Duplicate.{IsDuplicate}, declared.database.Duplicate.{Duplicate}}
 use Rattle.rm_evidence.specs.Database.{world_of}
 use Rattle.rm_lang_words.specs.Duplicate.{DuplicateSaid}
-use Rattle.rm_machine.specs.Recovery.{in_place}
-use Rattle.rm_machine.specs.Sound.{IsSound}
-use Rattle.rm_machine.specs.declared.state.State.{State}
+use Rattle.rm_machine.specs.{Recovery.{in_place}, Sound.{IsSound}, declared.state.State.{State}}
 use Rattle.rm_piece.specs.Valid.{IsPiece}
 use Rattle.rm_step_recover.specs.Gap.{NamesGap}
-use Rattle.rm_tool_duplicate.specs.Asked.{Sides, target_inc}
-use Rattle.rm_tool_duplicate.specs.Duplicated.{IsMadeOf}
-use Rattle.rm_tool_duplicate.specs.Refused.{IsNameReason, IsNumberReason, IsReason, IsRefused, by_gap}
-use Rattle.rm_tool_duplicate.proofs.Reasons.{by-names}
+use Rattle.rm_tool_duplicate.specs.{Asked.{Sides, target_inc}, Duplicated.{IsMadeOf}}
+use Rattle.rm_tool_duplicate.{specs.Refused.{IsNameReason, IsNumberReason, IsReason, IsRefused, by_gap}, proofs.Reasons.{by-names}}
 
 module _ (x : DuplicateSaid) (a : Sides) (s : State) where
   -- no refusal by the numbers: the reason is that of the names, which were looked at by the records and their incarnation

@@ -1,23 +1,14 @@
 -- Why a duplicate is refused, of what was looked at.
+use Rattle.std.specs.{Prelude.{IsSome, IsTrue, is_some, nat_lt, not}, List.{list_any}, Option.{option_map}, Str.{bytes_eq}}
 use Rattle.std.proofs.Common.{◌≡◌, ◌↔◌, ◌||◌, inl, inr, ℕ, Bool, true, false, List, [], ◌∷◌, Option, Some, None, IfSome, Contains, if◌then◌else◌, length, refl, rules, ap, sym, subst, ◌∙◌}
-use Rattle.std.specs.Prelude.{IsSome, IsTrue, is_some, nat_lt, not}
-use Rattle.std.specs.List.{list_any}
-use Rattle.std.specs.Option.{option_map}
-use Rattle.std.specs.Str.{bytes_eq}
-use Rattle.std.proofs.lemmas.List.Sorted.{length_permutation}
-use Rattle.std.proofs.lemmas.Slice.Eq.{bytes_eq-Decides}
+use Rattle.std.proofs.lemmas.{List.Sorted.{length_permutation}, Slice.Eq.{bytes_eq-Decides}}
 use Rattle.rm_apply.specs.Recover.{outside}
+use Rattle.rm_base.specs.{Store.{AreTheNames, Held}, declared.refusal.Refusal.{Refusal, TheVariants.{Rm02, Rm03, Rm06, Rm07}}}
 use Rattle.rm_base.proofs.Members.{behind, first-or-rest, in-front, none-in}
-use Rattle.rm_base.specs.Store.{AreTheNames, Held}
-use Rattle.rm_base.specs.declared.refusal.Refusal.{Refusal}
-use Rattle.rm_base.specs.declared.refusal.Refusal.TheVariants.{Rm02, Rm03, Rm06, Rm07}
-use Rattle.rm_catalog.specs.Faults.{Answers}
-use Rattle.rm_catalog.specs.declared.record.Record.{Record}
+use Rattle.rm_catalog.specs.{Faults.{Answers}, declared.record.Record.{Record}}
 use Rattle.rm_lang_statement.specs.declared.command.Until.TheVariants.{Scn}
 use Rattle.rm_lang_words.specs.Duplicate.{DuplicateSaid}
-use Rattle.rm_machine.specs.RecoverTest.{is_no_incarnation, test_refusal, tested}
-use Rattle.rm_machine.specs.State.{tree, world}
-use Rattle.rm_machine.specs.Until.{or_else}
+use Rattle.rm_machine.specs.{RecoverTest.{is_no_incarnation, test_refusal, tested}, State.{tree, world}, Until.{or_else}}
 use Rattle.rm_machine.specs.declared.state.State.{State}
 use Rattle.rm_report.specs.Reply.{HasDate}
 use Rattle.rm_tool_duplicate.specs.Asked.{Sides, target_inc}

@@ -1,15 +1,9 @@
 -- What the edits of a duplicate leave under a number without records: its records.
 use Rattle.std.proofs.Common.{◌≡◌, ◌<◌, ◌≤◌, ◌+◌, ◌++◌, ◌∙◌, ℕ, List, [], ◌∷◌, All, map, ap, sym, arith}
-use Rattle.std.proofs.lemmas.List.{append-nil, append_assoc}
-use Rattle.std.proofs.lemmas.List.Elements.{All-push, All-nil}
-use Rattle.rm_catalog.proofs.Filters.{above_none, below_all}
-use Rattle.rm_catalog.proofs.Numbering.{rises_catalog}
-use Rattle.rm_catalog.proofs.Unique.{Rises}
-use Rattle.rm_catalog.specs.Edits.{above, after_edit, after_edits}
-use Rattle.rm_catalog.specs.Keys.{place_of}
-use Rattle.rm_catalog.specs.Rules.{IsCatalog}
-use Rattle.rm_catalog.specs.declared.record.Edit.TheVariants.{Put}
-use Rattle.rm_catalog.specs.declared.record.Record.{Record}
+use Rattle.std.proofs.lemmas.List.{append-nil, append_assoc, Elements.{All-push, All-nil}}
+use Rattle.rm_catalog.specs.{Edits.{above, after_edit, after_edits}, Keys.{place_of}, Rules.{IsCatalog}}
+use Rattle.rm_catalog.{specs.declared.record.{Edit.TheVariants.{Put}, Record.{Record}}, proofs.Filters.{above_none, below_all}}
+use Rattle.rm_catalog.proofs.{Numbering.{rises_catalog}, Unique.{Rises}}
 
 -- puts of records that rise stand behind those that lie below them
 puts-behind : (b : ℕ) (rs before : List Record) → All (λ x. place_of x < b) before → Rises b rs → after_edits (map Put rs) before ≡ before ++ rs

@@ -1,22 +1,15 @@
 -- The copies of a duplicate stand under their names after they were put.
-use Rattle.std.proofs.Common.{◌≡◌, ◌≢◌, ◌<◌, ◌≤◌, ◌+◌, ◌^◌, ◌∙◌, ℕ, true, List, [], ◌∷◌, Some, All, length, map, ap, sym, subst, arith}
 use Rattle.std.specs.List.{enumerate_from}
-use Rattle.std.proofs.lemmas.List.Elements.{All-cons, All-contains, All-nil}
-use Rattle.std.proofs.lemmas.List.Kept.{AllPairs-cons}
-use Rattle.rm_base.proofs.Lists.{map_to}
-use Rattle.rm_base.specs.Store.{Held}
+use Rattle.std.proofs.Common.{◌≡◌, ◌≢◌, ◌<◌, ◌≤◌, ◌+◌, ◌^◌, ◌∙◌, ℕ, true, List, [], ◌∷◌, Some, All, length, map, ap, sym, subst, arith}
+use Rattle.std.proofs.lemmas.List.{Elements.{All-cons, All-contains, All-nil}, Kept.{AllPairs-cons}}
+use Rattle.rm_base.{specs.Store.{Held}, proofs.Lists.{map_to}}
 use Rattle.rm_blocks.specs.File.{File}
-use Rattle.rm_commit.specs.Carrying.{AreMoved}
-use Rattle.rm_commit.specs.Names.{bytes_of, name_of}
-use Rattle.rm_commit.specs.declared.commit.Object.{Object}
+use Rattle.rm_commit.specs.{Carrying.{AreMoved}, Names.{bytes_of, name_of}, declared.commit.Object.{Object}}
 use Rattle.rm_commit.proofs.Standing.{AreApart, each-stands}
-use Rattle.rm_dup.specs.Copies.{copies_of, copy_as}
-use Rattle.rm_dup.specs.Entries.{HoldsCopies}
-use Rattle.rm_dup.specs.declared.database.Duplicate.{Duplicate}
+use Rattle.rm_dup.specs.{Copies.{copies_of, copy_as}, Entries.{HoldsCopies}, declared.database.Duplicate.{Duplicate}}
 use Rattle.rm_evidence.proofs.Names.{piece-name-tells}
 use Rattle.rm_piece.specs.Spelling.{spelling}
-use Rattle.rm_tool_duplicate.specs.Duplicated.{commit_of, object_of}
-use Rattle.rm_tool_duplicate.specs.Refused.{copy_name}
+use Rattle.rm_tool_duplicate.specs.{Duplicated.{commit_of, object_of}, Refused.{copy_name}}
 
 module _ (dbid s : ℕ) where
   -- the objects of the copies of these datafiles, numbered from k on

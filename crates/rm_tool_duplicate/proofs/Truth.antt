@@ -1,38 +1,21 @@
 -- The copies of a duplicate are what the history of the source made.
-use Rattle.std.proofs.Common.{◌≡◌, ◌+◌, ◌∙◌, ℕ, List, [], ◌∷◌, Option, Some, map, refl, ap, sym, subst}
-use Rattle.std.specs.List.{enumerate_from}
+use Rattle.std.{specs.List.{enumerate_from}, proofs.Common.{◌≡◌, ◌+◌, ◌∙◌, ℕ, List, [], ◌∷◌, Option, Some, map, refl, ap, sym, subst}}
 use Rattle.rm_apply.specs.Files.{AreExactly}
-use Rattle.rm_base.specs.Store.{Held}
-use Rattle.rm_base.specs.declared.block.Change.{Change}
+use Rattle.rm_base.specs.{Store.{Held}, declared.block.Change.{Change}}
 use Rattle.rm_blocks.specs.File.{File}
 use Rattle.rm_catalog.specs.declared.record.Record.{Record}
 use Rattle.rm_catalog_typed.specs.TypedCatalog.{records_of}
-use Rattle.rm_dup.specs.Copies.{copy_as}
-use Rattle.rm_dup.specs.Duplicate.{IsDuplicate}
-use Rattle.rm_dup.specs.declared.database.Duplicate.{Duplicate}
-use Rattle.rm_evidence.specs.declared.evidence.Evidence.{Evidence}
+use Rattle.rm_dup.specs.{Copies.{copy_as}, Duplicate.{IsDuplicate}, declared.database.Duplicate.{Duplicate}}
+use Rattle.rm_evidence.specs.{Gathered.{IsGathered}, Known.{known_of}, Seen.{IsSeen}, declared.evidence.Evidence.{Evidence}}
 use Rattle.rm_evidence.specs.declared.evidence.InPlace.{InPlace}
-use Rattle.rm_evidence.specs.Gathered.{IsGathered}
-use Rattle.rm_evidence.specs.Known.{known_of}
-use Rattle.rm_evidence.specs.Seen.{IsSeen}
-use Rattle.rm_history.specs.Evidence.{Agrees}
-use Rattle.rm_history.specs.History.{IsHistory}
-use Rattle.rm_history.specs.State.{states}
-use Rattle.rm_history.specs.World.{blocks_of}
-use Rattle.rm_history.specs.declared.world.World.{World}
+use Rattle.rm_history.specs.{Evidence.{Agrees}, History.{IsHistory}, State.{states}, World.{blocks_of}, declared.world.World.{World}}
 use Rattle.rm_lang_words.specs.Duplicate.{DuplicateSaid}
-use Rattle.rm_machine.specs.Machine.{DigestsTell, IsSoundBy, Machine, TellBy}
-use Rattle.rm_machine.specs.Recovery.{AreMadeAt, file_at, in_place}
-use Rattle.rm_machine.specs.State.{world}
-use Rattle.rm_machine.specs.declared.state.State.{State}
-use Rattle.rm_machine.proofs.Told.{tells-files}
-use Rattle.rm_machine_laws.specs.Holds.{View}
-use Rattle.rm_machine_laws.proofs.Agreeing.{agreed}
-use Rattle.rm_machine_laws.proofs.Told.{files-made}
+use Rattle.rm_machine.specs.{Machine.{DigestsTell, IsSoundBy, Machine, TellBy}, Recovery.{AreMadeAt, file_at, in_place}, State.{world}}
+use Rattle.rm_machine.{specs.declared.state.State.{State}, proofs.Told.{tells-files}}
+use Rattle.rm_machine_laws.{specs.Holds.{View}, proofs.{Agreeing.{agreed}, Told.{files-made}}}
 use Rattle.rm_plan.specs.Plan.{IsFileTarget}
 use Rattle.rm_tool_opening.specs.Opening.{IsSource}
-use Rattle.rm_tool_duplicate.specs.Asked.{Sides, target_inc}
-use Rattle.rm_tool_duplicate.specs.Duplicated.{AreTrueCopies, IsMade, Makes}
+use Rattle.rm_tool_duplicate.specs.{Asked.{Sides, target_inc}, Duplicated.{AreTrueCopies, IsMade, Makes}}
 
 -- the copies have the rows of the datafiles
 copied-rows : (dbid s k : ℕ) (files : List File) → map (λ a. a.rows) (map (copy_as dbid s) (enumerate_from k files)) ≡ map (λ x. x.rows) files

@@ -3,8 +3,7 @@ use Rattle.std.specs.Prelude.{ℕ, is_some, Bool, Option, List}
 use Rattle.rm_base.specs.Store.{Held}
 use Rattle.rm_catalog.specs.declared.record.Record.{Record}
 use Rattle.rm_lang_words.specs.Duplicate.{DuplicateSaid, duplicate_said}
-use Rattle.rm_machine.specs.RecoverTest.{tested}
-use Rattle.rm_machine.specs.declared.state.State.{State}
+use Rattle.rm_machine.specs.{RecoverTest.{tested}, declared.state.State.{State}}
 use Rattle.rm_shelf.specs.Shelved.{Shelved, under}
 
 -- the words are those of a duplicate

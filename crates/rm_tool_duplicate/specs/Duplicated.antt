@@ -3,38 +3,22 @@ use Rattle.std.specs.Prelude.{ℕ, ◌≡◌, ◌⊎◌, ◌≤◌, ◌<◌, ◌
 use Rattle.std.specs.List.{enumerate_from}
 use Rattle.rm_apply.specs.Files.{AreExactly}
 use Rattle.rm_base.specs.declared.block.Change.{Change}
-use Rattle.rm_catalog.specs.Rules.{IsCatalog}
-use Rattle.rm_catalog.specs.declared.record.Record.{Record}
-use Rattle.rm_catalog.specs.declared.record.Edit.TheVariants.{Put}
+use Rattle.rm_catalog.specs.{Rules.{IsCatalog}, declared.record.{Record.{Record}, Edit.TheVariants.{Put}}}
 use Rattle.rm_catalog_typed.specs.TypedCatalog.{records_of}
-use Rattle.rm_commit.specs.declared.commit.Commit.{Commit}
-use Rattle.rm_commit.specs.declared.commit.Object.{Object}
-use Rattle.rm_dup.specs.Duplicate.{IsDuplicate}
-use Rattle.rm_dup.specs.Entries.{nothing, restored}
-use Rattle.rm_dup.specs.declared.database.Duplicate.{Duplicate}
+use Rattle.rm_commit.specs.declared.commit.{Commit.{Commit}, Object.{Object}}
+use Rattle.rm_dup.specs.{Duplicate.{IsDuplicate}, Entries.{nothing, restored}, declared.database.Duplicate.{Duplicate}}
 use Rattle.rm_evidence.specs.declared.evidence.InPlace.{InPlace}
-use Rattle.rm_history.specs.State.{states}
-use Rattle.rm_history.specs.World.{blocks_of}
-use Rattle.rm_history.specs.declared.world.World.{World}
+use Rattle.rm_history.specs.{State.{states}, World.{blocks_of}, declared.world.World.{World}}
 use Rattle.rm_lang_words.specs.Duplicate.{DuplicateSaid}
-use Rattle.rm_machine.specs.Machine.{DigestsTell}
-use Rattle.rm_machine.specs.Recovery.{in_place, skipped_lines}
-use Rattle.rm_machine.specs.Sound.{IsSound}
-use Rattle.rm_machine.specs.State.{world}
+use Rattle.rm_machine.specs.{Machine.{DigestsTell}, Recovery.{in_place, skipped_lines}, Sound.{IsSound}, State.{world}}
 use Rattle.rm_machine.specs.declared.state.State.{State}
 use Rattle.rm_machine_laws.specs.Holds.{View}
-use Rattle.rm_piece.specs.Spelling.{spelling}
-use Rattle.rm_piece.specs.Valid.{IsPiece}
-use Rattle.rm_piece.specs.declared.piece.Piece.{Piece}
+use Rattle.rm_piece.specs.{Spelling.{spelling}, Valid.{IsPiece}, declared.piece.Piece.{Piece}}
 use Rattle.rm_plan.specs.Plan.{IsFileTarget}
-use Rattle.rm_report.specs.Reply.{said}
-use Rattle.rm_report.specs.Text.{reply_text}
-use Rattle.rm_report.specs.declared.line.Line.{Line}
+use Rattle.rm_report.specs.{Reply.{said}, Text.{reply_text}, declared.line.Line.{Line}}
 use Rattle.rm_report.specs.declared.line.Line.TheVariants.{DuplicatedDatabase, DuplicatedDatafile}
-use Rattle.rm_tool_opening.specs.Opening.{IsSource}
-use Rattle.rm_tool_opening.specs.Opening.{FromRest}
-use Rattle.rm_tool_duplicate.specs.Asked.{Sides, target_inc}
-use Rattle.rm_tool_duplicate.specs.Refused.{IsReason, copy_name}
+use Rattle.rm_tool_opening.specs.Opening.{IsSource, FromRest}
+use Rattle.rm_tool_duplicate.specs.{Asked.{Sides, target_inc}, Refused.{IsReason, copy_name}}
 
 -- the object of a copy: its bytes, under its name
 abbrev pub object_of : Piece → Object

@@ -1,18 +1,13 @@
 -- How a duplicate ends, and what it leaves.
 use Rattle.std.specs.Prelude.{ℕ, ◌≡◌, Option, List}
-use Rattle.rm_base.specs.Outside.{Appends}
-use Rattle.rm_base.specs.declared.refusal.Refusal.{Refusal}
+use Rattle.rm_base.specs.{Outside.{Appends}, declared.refusal.Refusal.{Refusal}}
 use Rattle.rm_commit.specs.Carrying.{Carried, Halted}
 use Rattle.rm_dup.specs.declared.database.Duplicate.{Duplicate}
 use Rattle.rm_lang_words.specs.Duplicate.{DuplicateSaid}
 use Rattle.rm_tool_opening.specs.Opening.{BeginsBadRecord, TellsValid, WritesBadRecord}
-use Rattle.rm_tool_duplicate.specs.Asked.{Sides}
-use Rattle.rm_tool_duplicate.specs.Duplicated.{Makes, commit_of, lines_text}
-use Rattle.rm_tool_duplicate.specs.Refused.{Refuses}
+use Rattle.rm_tool_duplicate.specs.{Asked.{Sides}, Duplicated.{Makes, commit_of, lines_text}, Refused.{Refuses}}
 use Rattle.rm_tool_duplicate.specs.declared.preparing.Ready.{Ready}
-use Rattle.rm_tool_ends.specs.Writing.{WritesFront, refusal_line}
-use Rattle.rm_tool_ends.specs.declared.ended.Ended.{Ended}
-use Rattle.rm_tool_ends.specs.declared.ended.Ended.TheVariants as ended
+use Rattle.rm_tool_ends.specs.{Writing.{WritesFront, refusal_line}, declared.ended.Ended.{Ended, TheVariants as ended}}
 
 -- What is ready to be carried out and told: the change of a duplicate, and the text of its lines.
 pub record IsReady (x : DuplicateSaid) (a : Sides) (ready : Ready) : Type 0 where

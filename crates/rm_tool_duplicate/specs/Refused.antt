@@ -1,21 +1,13 @@
 -- Why a duplicate is refused.
 use Rattle.std.specs.Prelude.{ℕ, zero, suc, ◌≡◌, ◌+◌, if◌then◌else◌, count_by, length, is_some, nat_lt, true, Bool, Option, Some, None, IfSome, List}
-use Rattle.std.specs.List.{list_any}
-use Rattle.std.specs.Option.{option_map}
-use Rattle.std.specs.Str.{bytes_eq}
-use Rattle.rm_base.specs.Store.{Held}
-use Rattle.rm_base.specs.declared.refusal.Refusal.{Refusal}
-use Rattle.rm_base.specs.declared.refusal.Refusal.TheVariants.{Rm02, Rm03, Rm13}
+use Rattle.std.specs.{List.{list_any}, Option.{option_map}, Str.{bytes_eq}}
+use Rattle.rm_base.specs.{Store.{Held}, declared.refusal.Refusal.{Refusal, TheVariants.{Rm02, Rm03, Rm13}}}
 use Rattle.rm_catalog.specs.declared.record.Record.{Record}
 use Rattle.rm_evidence.specs.Names.{piece_name}
-use Rattle.rm_history.specs.World.{exists}
-use Rattle.rm_history.specs.declared.world.World.{World}
+use Rattle.rm_history.specs.{World.{exists}, declared.world.World.{World}}
 use Rattle.rm_lang_statement.specs.declared.command.Until.TheVariants.{Scn}
 use Rattle.rm_lang_words.specs.Duplicate.{DuplicateSaid}
-use Rattle.rm_machine.specs.RecoverTest.{test_refusal}
-use Rattle.rm_machine.specs.State.{world}
-use Rattle.rm_machine.specs.Until.{or_else}
-use Rattle.rm_machine.specs.declared.state.State.{State}
+use Rattle.rm_machine.specs.{RecoverTest.{test_refusal}, State.{world}, Until.{or_else}, declared.state.State.{State}}
 use Rattle.rm_machine_laws.specs.Holds.{View}
 use Rattle.rm_step_recover.specs.Gap.{NamesGap}
 use Rattle.rm_tool_opening.specs.Opening.{IsSource}

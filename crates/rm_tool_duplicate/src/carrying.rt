@@ -5,8 +5,7 @@ ghost use Rattle.rm_catalog.specs.declared.record.Edit.TheVariants.{Put};
 ghost use Rattle.rm_commit.specs.Carrying.{Carried, Halted};
 ghost use Rattle.rm_piece.specs.Valid.{IsPiece};
 ghost use Rattle.rm_shelf.specs.Shelved.{OthersStay, under};
-ghost use Rattle.rm_tool_duplicate.specs.Duplicated.{commit_for};
-ghost use Rattle.rm_tool_duplicate.specs.Duplicated.{object_of as the_object_of};
+ghost use Rattle.rm_tool_duplicate.specs.Duplicated.{commit_for, object_of as the_object_of};
 
 use rm_base::{NoMemory, Seq, Store};
 use rm_catalog::{Edit, Record};

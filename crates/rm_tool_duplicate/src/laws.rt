@@ -1,27 +1,18 @@
 //! What a duplicate is good for.
 ghost use Rattle.std.specs.Prelude.{◌≡◌, List, None, Option, Some, ℕ};
-ghost use Rattle.rm_apply.specs.Recover.{FindsGap, TellsAll, outside};
-ghost use Rattle.rm_apply.specs.declared.recovering.Recovered.{Recovered};
+ghost use Rattle.rm_apply.specs.{Recover.{FindsGap, TellsAll, outside}, declared.recovering.Recovered.{Recovered}};
 ghost use Rattle.rm_base.specs.Store.{Held};
-ghost use Rattle.rm_catalog.specs.Rules.{HasDatabase, IsCatalog};
-ghost use Rattle.rm_catalog.specs.Trees.{nodes};
-ghost use Rattle.rm_catalog.specs.declared.record.Record.{Record};
+ghost use Rattle.rm_catalog.specs.{Rules.{HasDatabase, IsCatalog}, Trees.{nodes}, declared.record.Record.{Record}};
 ghost use Rattle.rm_catalog_typed.specs.TypedCatalog.{records_of};
-ghost use Rattle.rm_dup.specs.Copies.{made_of};
-ghost use Rattle.rm_dup.specs.Entries.{nothing};
+ghost use Rattle.rm_dup.specs.{Copies.{made_of}, Entries.{nothing}};
 ghost use Rattle.rm_evidence.specs.declared.evidence.InPlace.{InPlace};
 ghost use Rattle.rm_history.specs.Tree.{IsThere};
 ghost use Rattle.rm_lang_words.specs.Duplicate.{DuplicateSaid};
-ghost use Rattle.rm_machine.specs.Loading.{IsLoaded};
-ghost use Rattle.rm_machine.specs.Machine.{DigestsTell};
-ghost use Rattle.rm_machine.specs.Recovery.{in_place};
-ghost use Rattle.rm_machine.specs.State.{world};
+ghost use Rattle.rm_machine.specs.{Loading.{IsLoaded}, Machine.{DigestsTell}, Recovery.{in_place}, State.{world}};
 ghost use Rattle.rm_machine.specs.declared.state.State.{State};
 ghost use Rattle.rm_plan.specs.declared.plan.Gap.{Gap};
 ghost use Rattle.rm_tool_opening.specs.Opening.{FromRest};
-ghost use Rattle.rm_tool_duplicate.specs.Asked.{Sides, target_inc};
-ghost use Rattle.rm_tool_duplicate.specs.Duplicated.{IsPlaceOf};
-ghost use Rattle.rm_tool_duplicate.specs.Ended.{Finishes};
+ghost use Rattle.rm_tool_duplicate.specs.{Asked.{Sides, target_inc}, Duplicated.{IsPlaceOf}, Ended.{Finishes}};
 
 use rm_dup::laws::{a_duplicate_comes_back, a_duplicate_is_the_source};
 

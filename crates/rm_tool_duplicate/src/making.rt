@@ -7,16 +7,12 @@ ghost use Rattle.rm_catalog_typed.specs.TypedCatalog.{records_of};
 ghost use Rattle.rm_dup.specs.Duplicate.{IsDuplicate};
 ghost use Rattle.rm_lang_statement.specs.declared.command.Until.TheVariants.{Scn as AtScn};
 ghost use Rattle.rm_lang_words.specs.Reading.{duplicate_of};
-ghost use Rattle.rm_machine.specs.Recovery.{in_place};
-ghost use Rattle.rm_machine.specs.RecoverTest.{test_refusal};
-ghost use Rattle.rm_machine.specs.Sound.{IsSound};
+ghost use Rattle.rm_machine.specs.{Recovery.{in_place}, RecoverTest.{test_refusal}, Sound.{IsSound}};
 ghost use Rattle.rm_piece.specs.Valid.{IsPiece};
 ghost use Rattle.rm_report.specs.Reply.{HasDate};
 ghost use Rattle.rm_shelf.specs.Shelved.{AllStay};
 ghost use Rattle.rm_step_recover.specs.Gap.{NamesGap};
-ghost use Rattle.rm_tool_duplicate.specs.Asked.{sides, target_inc};
-ghost use Rattle.rm_tool_duplicate.specs.Duplicated.{IsMadeOf};
-ghost use Rattle.rm_tool_duplicate.specs.Refused.{IsRefused};
+ghost use Rattle.rm_tool_duplicate.specs.{Asked.{sides, target_inc}, Duplicated.{IsMadeOf}, Refused.{IsRefused}};
 
 use crate::refusing::{name_refusal, number_refusal};
 use rm_apply::RecoverFault;

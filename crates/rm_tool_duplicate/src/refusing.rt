@@ -1,19 +1,14 @@
 //! Why a duplicate is refused before the source's backups are read.
-ghost use Rattle.std.specs.Prelude.{◌≡◌, ◌≤◌, ◌<◌, IfOk, IsErrOf};
-ghost use Rattle.std.specs.List.{list_any};
-ghost use Rattle.std.specs.Str.{bytes_eq};
+ghost use Rattle.std.specs.{Prelude.{◌≡◌, ◌≤◌, ◌<◌, IfOk, IsErrOf}, List.{list_any}, Str.{bytes_eq}};
 ghost use Rattle.rm_apply.specs.Recover.{outside};
 ghost use Rattle.rm_base.specs.Outside.{Rose};
-ghost use Rattle.rm_catalog.specs.Rules.{HasDatabase};
-ghost use Rattle.rm_catalog.specs.Trees.{nodes};
-ghost use Rattle.rm_catalog.specs.declared.keeper.KeeperFail.TheVariants.{Failed};
+ghost use Rattle.rm_catalog.specs.{Rules.{HasDatabase}, Trees.{nodes}, declared.keeper.KeeperFail.TheVariants.{Failed}};
 ghost use Rattle.rm_evidence.specs.Database.{world_of};
 ghost use Rattle.rm_history.specs.Tree.{IsThere};
 ghost use Rattle.rm_machine.specs.Sound.{IsSound};
 ghost use Rattle.rm_lang_words.specs.Reading.{duplicate_of};
 ghost use Rattle.rm_shelf.specs.Shelved.{AllStay, under};
-ghost use Rattle.rm_tool_duplicate.specs.Refused.{HasRecords, IsNameReason, IsNumberReason, is_among};
-ghost use Rattle.rm_tool_duplicate.specs.Refused.{first_taken as the_first_taken};
+ghost use Rattle.rm_tool_duplicate.specs.Refused.{HasRecords, IsNameReason, IsNumberReason, is_among, first_taken as the_first_taken};
 
 use rm_apply::datafiles_at;
 use rm_base::{IncNo, NoMemory, Refusal, Scn, Store, Text};

@@ -2,15 +2,11 @@
 ghost use Rattle.std.specs.Prelude.{◌≡◌, ◌≤◌, ◌⊎◌, ◌∷◌, [], Contains, IfErr, List, OnOk, Some, false};
 ghost use Rattle.rm_base.specs.Outside.{Appends, Rose};
 ghost use Rattle.rm_catalog.specs.declared.record.Record.{Record};
-ghost use Rattle.rm_lang_words.specs.Duplicate.{DuplicateSaid, duplicate_said};
-ghost use Rattle.rm_lang_words.specs.Reading.{duplicate_of as said_of};
+ghost use Rattle.rm_lang_words.specs.{Duplicate.{DuplicateSaid, duplicate_said}, Reading.{duplicate_of as said_of}};
 ghost use Rattle.rm_shelf.specs.Shelved.{AllStay, OthersStay, under};
-ghost use Rattle.rm_tool_opening.specs.Opens.{AreValid};
-ghost use Rattle.rm_tool_opening.specs.Opening.{WritesBadRecord};
-ghost use Rattle.rm_tool_duplicate.specs.Asked.{accepts, sides};
-ghost use Rattle.rm_tool_duplicate.specs.Ended.{EndsInText, EndsRefused, EndsStopped, Finishes, Leaves};
-ghost use Rattle.rm_tool_ends.specs.Ended.{Counts, IsEarly, NoneFalls, RoseFor};
-ghost use Rattle.rm_tool_ends.specs.Writing.{WritesFront, bad_words};
+ghost use Rattle.rm_tool_opening.specs.{Opens.{AreValid}, Opening.{WritesBadRecord}};
+ghost use Rattle.rm_tool_duplicate.specs.{Asked.{accepts, sides}, Ended.{EndsInText, EndsRefused, EndsStopped, Finishes, Leaves}};
+ghost use Rattle.rm_tool_ends.specs.{Ended.{Counts, IsEarly, NoneFalls, RoseFor}, Writing.{WritesFront, bad_words}};
 
 use crate::carrying::carry;
 use crate::preparing::prepare;

@@ -1,9 +1,7 @@
 //! The site of the source, opened over a shelf.
 ghost use Rattle.std.specs.Prelude.{◌≡◌, ◌≤◌, IfErr, IfOk, OnOk, Some};
 ghost use Rattle.rm_shelf.specs.Shelved.{AllStay, under};
-ghost use Rattle.rm_tool_opening.specs.Opens.{Opens, Shows};
-ghost use Rattle.rm_tool_opening.specs.Opening.{RoseUnopened, WritesUnopened};
-ghost use Rattle.rm_tool_opening.specs.Opening.{TellsValid};
+ghost use Rattle.rm_tool_opening.specs.{Opens.{Opens, Shows}, Opening.{RoseUnopened, WritesUnopened, TellsValid}};
 
 use rm_base::{Sink, Store};
 use rm_shelf::{Desk, Noted, Shelf};

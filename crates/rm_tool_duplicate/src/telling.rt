@@ -1,8 +1,7 @@
 //! What a duplicate writes.
 ghost use Rattle.std.specs.Prelude.{◌≡◌, ◌≤◌, ◌++◌, IfOk, OnOk, length};
 ghost use Rattle.rm_lang_words.specs.Reading.{duplicate_of};
-ghost use Rattle.rm_tool_duplicate.specs.Duplicated.{file_lines};
-ghost use Rattle.rm_tool_duplicate.specs.Duplicated.{lines_of as the_lines_of, lines_text as the_text_of};
+ghost use Rattle.rm_tool_duplicate.specs.Duplicated.{file_lines, lines_of as the_lines_of, lines_text as the_text_of};
 
 use rm_base::{FileNo, NoMemory, Seq};
 use rm_dup::Duplicate;

@@ -1,6 +1,5 @@
 -- What is so of a call that gave an answer, or an error.
-use Rattle.std.proofs.Common.{◌≡◌, Result, Ok, Err}
-use Rattle.std.specs.Prelude.{OnErr, OnOk}
+use Rattle.std.{specs.Prelude.{OnErr, OnOk}, proofs.Common.{◌≡◌, Result, Ok, Err}}
 
 pub on-ok : {T E : Type 0} (P : Type 0) (r : Result T E) (v : T) → r ≡ Ok v → OnOk r P → P
 on-ok P (Ok w) v is p = p

@@ -1,16 +1,12 @@
 -- What is so of a site that was opened for a call.
-use Rattle.std.proofs.Common.{◌≡◌, ℕ, List, Option, Some, IfSome, Result, Ok, Err, subst}
-use Rattle.std.specs.Prelude.{IfOk, OnOk}
+use Rattle.std.{specs.Prelude.{IfOk, OnOk}, proofs.Common.{◌≡◌, ℕ, List, Option, Some, IfSome, Result, Ok, Err, subst}}
 use Rattle.rm_base.specs.Store.{Held}
-use Rattle.rm_catalog.specs.declared.catalog.CatalogFault.TheVariants.{BadRow}
-use Rattle.rm_catalog.specs.declared.record.Record.{Record}
-use Rattle.rm_catalog.specs.Faults.{IsBadRow}
+use Rattle.rm_catalog.specs.{Faults.{IsBadRow}, declared.{catalog.CatalogFault.TheVariants.{BadRow}, record.Record.{Record}}}
 use Rattle.rm_catalog.proofs.Unique.{none_valid}
 use Rattle.rm_machine_laws.specs.Holds.{View}
 use Rattle.rm_site.specs.Opens.{AreValid, Opens, Shows}
 pub use Rattle.rm_site.proofs.Opening.{told-err}
-use Rattle.rm_tool_opening.specs.Opening.{IsSource, TellsValid, WritesBadRecord}
-use Rattle.rm_tool_opening.specs.declared.opening.Unopened.{Unopened}
+use Rattle.rm_tool_opening.specs.{Opening.{IsSource, TellsValid, WritesBadRecord}, declared.opening.Unopened.{Unopened}}
 
 -- the site that was opened
 pub source-of : (held : Option Held) (records : Option (List Record)) (r : Result View Unopened) (v : View) → r ≡ Ok v → IfOk r (Opens held records) → IfOk r (Shows held records) → OnOk r (TellsValid records) → IsSource held records v

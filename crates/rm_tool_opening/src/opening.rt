@@ -2,8 +2,7 @@
 ghost use Rattle.std.specs.Prelude.{◌≡◌, ◌≤◌, true, false, IfErr, IfOk, OnOk, IsErrOf};
 ghost use Rattle.rm_base.specs.Outside.{Rose};
 ghost use Rattle.rm_site.specs.Opens.{Opens, Shows};
-ghost use Rattle.rm_tool_opening.specs.Opening.{RoseUnopened, WritesUnopened};
-ghost use Rattle.rm_tool_opening.specs.Opening.{BeginsBadRecord, TellsValid, WritesBadRecord, bad_record};
+ghost use Rattle.rm_tool_opening.specs.Opening.{RoseUnopened, WritesUnopened, BeginsBadRecord, TellsValid, WritesBadRecord, bad_record};
 
 use rm_base::{Failed, NoMemory, Sink, Store, Text};
 use rm_catalog::{Keeper, Key};

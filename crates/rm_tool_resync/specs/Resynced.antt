@@ -2,15 +2,10 @@
 use Rattle.std.specs.Prelude.{ℕ, ◌≡◌, ◌⊎◌, Bool, List, [], ◌∷◌, Option, IfSome, is_some, length}
 use Rattle.rm_base.specs.Outside.{Appends, Rose}
 use Rattle.rm_catalog.specs.declared.record.Record.{Record}
-use Rattle.rm_control.specs.Control.{OneRose}
-use Rattle.rm_control.specs.Follows.{AreEqual}
+use Rattle.rm_control.specs.{Control.{OneRose}, Follows.{AreEqual}}
 use Rattle.rm_lang_words.specs.Resync.{resync_said}
-use Rattle.rm_report.specs.Reply.{said}
-use Rattle.rm_report.specs.Text.{reply_text}
-use Rattle.rm_report.specs.declared.line.Line.TheVariants.{Resynced}
-use Rattle.rm_tool_ends.specs.Writing.{WritesFront}
-use Rattle.rm_tool_ends.specs.declared.ended.Ended.{Ended}
-use Rattle.rm_tool_ends.specs.declared.ended.Ended.TheVariants as ended
+use Rattle.rm_report.specs.{Reply.{said}, Text.{reply_text}, declared.line.Line.TheVariants.{Resynced}}
+use Rattle.rm_tool_ends.specs.{Writing.{WritesFront}, declared.ended.Ended.{Ended, TheVariants as ended}}
 
 -- the words are those of a resync
 abbrev pub accepts : List (List ℕ) → Bool

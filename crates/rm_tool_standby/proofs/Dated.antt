@@ -1,22 +1,13 @@
 -- No line and no refusal of a standby has a date that is too late.
 use Rattle.std.proofs.Common.{◌≡◌, ◌++◌, ℕ, Bool, true, false, List, [], ◌∷◌, Option, Some, None, All, IfSome, if◌then◌else◌, nat_lt, subst, sym}
 use Rattle.std.proofs.lemmas.List.Elements.{All-append, All-cons, All-nil}
-use Rattle.rm_base.specs.Store.{Held}
-use Rattle.rm_base.specs.declared.kinds.Bad.{Bad}
-use Rattle.rm_base.specs.declared.refusal.Limit.TheVariants.{ObjectIds}
-use Rattle.rm_base.specs.declared.refusal.Refusal.{Refusal}
+use Rattle.rm_base.specs.{Store.{Held}, declared.{kinds.Bad.{Bad}, refusal.{Limit.TheVariants.{ObjectIds}, Refusal.{Refusal}}}}
 use Rattle.rm_base.specs.declared.refusal.Refusal.TheVariants.{Rm11}
-use Rattle.rm_machine.specs.RecoverTest.{file_lines}
-use Rattle.rm_machine.specs.Recovery.{skipped_lines}
-use Rattle.rm_machine.specs.declared.state.State.{State}
+use Rattle.rm_machine.specs.{RecoverTest.{file_lines}, Recovery.{skipped_lines}, declared.state.State.{State}}
 use Rattle.rm_machine.proofs.Skipped.{skipped-dated}
-use Rattle.rm_piece.specs.declared.set.Set.{Set}
-use Rattle.rm_piece.specs.declared.set.SetFile.{SetFile}
-use Rattle.rm_report.proofs.Plain.{plain-dated}
-use Rattle.rm_report.specs.Reply.{HasDate, IsPlain, LineHasDate}
-use Rattle.rm_report.specs.declared.line.Line.{Line}
-use Rattle.rm_step_recover.proofs.Dates.{rows-dated}
-use Rattle.rm_step_recover.specs.Gap.{NamesGap}
+use Rattle.rm_piece.specs.declared.set.{Set.{Set}, SetFile.{SetFile}}
+use Rattle.rm_report.{specs.{Reply.{HasDate, IsPlain, LineHasDate}, declared.line.Line.{Line}}, proofs.Plain.{plain-dated}}
+use Rattle.rm_step_recover.{specs.Gap.{NamesGap}, proofs.Dates.{rows-dated}}
 use Rattle.rm_tool_standby.specs.Done.{dump_lines, file_in, members_lines}
 use Rattle.rm_tool_standby.specs.Refused.{RefusesRoll, apart, no_increment, no_number, none_to_roll, number_refusal}
 

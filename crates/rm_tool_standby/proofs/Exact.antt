@@ -1,30 +1,17 @@
 -- From a database at rest, what a task makes holds what its history made.
 use Rattle.std.proofs.Common.{◌≡◌, ◌∙◌, ℕ, List, Option, Some, subst}
-use Rattle.rm_apply.specs.Recover.{TellsAll}
-use Rattle.rm_apply.specs.declared.recovering.Recovered.{Recovered}
-use Rattle.rm_base.specs.Store.{Held}
-use Rattle.rm_base.specs.declared.block.Change.{Change}
+use Rattle.rm_apply.specs.{Recover.{TellsAll}, declared.recovering.Recovered.{Recovered}}
+use Rattle.rm_base.specs.{Store.{Held}, declared.block.Change.{Change}}
 use Rattle.rm_catalog.specs.declared.record.Record.{Record}
-use Rattle.rm_catalog_typed.proofs.Records.{database-told, tree-told}
-use Rattle.rm_catalog_typed.proofs.Valid.{typed_catalog-valid}
-use Rattle.rm_catalog_typed.specs.TypedCatalog.{records_of}
-use Rattle.rm_evidence.proofs.DatabaseWorlds.{is-tree}
-use Rattle.rm_evidence.specs.Known.{known_of}
-use Rattle.rm_history.specs.History.{IsHistory}
-use Rattle.rm_history.specs.Tree.{IsTree}
-use Rattle.rm_machine.specs.Machine.{DigestsTell, IsBorneOut, IsSoundBy, Machine}
-use Rattle.rm_machine.specs.Recovery.{AreMadeAt, in_place}
-use Rattle.rm_machine.specs.Sound.{IsSound}
-use Rattle.rm_machine.specs.State.{tree, world}
-use Rattle.rm_machine.specs.declared.state.State.{State}
-use Rattle.rm_machine.proofs.Told.{tells-files}
-use Rattle.rm_machine_laws.proofs.Agreeing.{agreed}
-use Rattle.rm_machine_laws.proofs.Told.{files-made}
-use Rattle.rm_machine_laws.specs.Holds.{View}
+use Rattle.rm_catalog_typed.{specs.TypedCatalog.{records_of}, proofs.{Records.{database-told, tree-told}, Valid.{typed_catalog-valid}}}
+use Rattle.rm_evidence.{specs.Known.{known_of}, proofs.DatabaseWorlds.{is-tree}}
+use Rattle.rm_history.specs.{History.{IsHistory}, Tree.{IsTree}}
+use Rattle.rm_machine.specs.{Machine.{DigestsTell, IsBorneOut, IsSoundBy, Machine}, Recovery.{AreMadeAt, in_place}, Sound.{IsSound}}
+use Rattle.rm_machine.{specs.{State.{tree, world}, declared.state.State.{State}}, proofs.Told.{tells-files}}
+use Rattle.rm_machine_laws.{specs.Holds.{View}, proofs.{Agreeing.{agreed}, Told.{files-made}}}
 use Rattle.rm_piece.specs.declared.set.Set.{Set}
 use Rattle.rm_standby.specs.Standby.{HoldsSince, HoldsStates}
-use Rattle.rm_tool_opening.specs.Opening.{IsSource}
-use Rattle.rm_tool_opening.specs.Opening.{FromRest}
+use Rattle.rm_tool_opening.specs.Opening.{IsSource, FromRest}
 
 -- its incarnations are a tree
 pub a-tree : (s : State) → IsSound s → IsTree (tree s)

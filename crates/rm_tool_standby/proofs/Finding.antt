@@ -1,30 +1,19 @@
 -- What a task made or rolled is the standby that the next call finds.
-use Rattle.std.proofs.Common.{◌≡◌, ◌<◌, ◌^◌, ◌∙◌, ℕ, List, [], ◌∷◌, Option, Some, None, true, refl, ap, sym, subst, arith, map}
 use Rattle.std.specs.List.{list_all}
+use Rattle.std.proofs.Common.{◌≡◌, ◌<◌, ◌^◌, ◌∙◌, ℕ, List, [], ◌∷◌, Option, Some, None, true, refl, ap, sym, subst, arith, map}
 use Rattle.rm_base.specs.Store.{Both, Held}
 use Rattle.rm_blocks.specs.File.{File}
 use Rattle.rm_history.specs.World.{creation_of}
 use Rattle.rm_lang_statement.specs.declared.command.Until.TheVariants.{Scn}
 use Rattle.rm_lang_words.specs.declared.standby.StandbyTask.{StandbyTask}
-use Rattle.rm_machine.specs.RecoverTest.{test_refusal}
-use Rattle.rm_machine.specs.State.{ledger, world}
-use Rattle.rm_machine.specs.declared.state.State.{State}
-use Rattle.rm_piece.specs.Sets.{IsSet}
-use Rattle.rm_piece.specs.declared.set.Set.{Set}
-use Rattle.rm_piece.specs.declared.set.SetFile.{SetFile}
+use Rattle.rm_machine.specs.{RecoverTest.{test_refusal}, State.{ledger, world}, declared.state.State.{State}}
+use Rattle.rm_piece.specs.{Sets.{IsSet}, declared.set.{Set.{Set}, SetFile.{SetFile}}}
 use Rattle.rm_report.specs.declared.line.Line.{Line}
-use Rattle.rm_standby.specs.Image.{imaged_member}
-use Rattle.rm_standby.specs.Rolling.{rolled_member}
-use Rattle.rm_standby.specs.Standby.{has_all, is_standby}
-use Rattle.rm_standby_store.proofs.Naming.{name-apart}
-use Rattle.rm_standby_store.specs.Names.{IsStandby, standby_name}
-use Rattle.rm_tool_standby.specs.Asked.{Sides}
-use Rattle.rm_tool_standby.specs.Done.{Comes, ComesTo, made, was_rolled}
-use Rattle.rm_tool_standby.specs.Ended.{Finishes, Takes}
-use Rattle.rm_tool_standby.specs.Kept.{Finds, IsNoneOf, Replaced, found_after, next_number}
-use Rattle.rm_tool_standby.specs.Refused.{number_refusal}
-use Rattle.rm_tool_standby.proofs.Stopped.{new-found, next-fits}
-use Rattle.rm_tool_standby.proofs.Working.{both-none}
+use Rattle.rm_standby.specs.{Image.{imaged_member}, Rolling.{rolled_member}, Standby.{has_all, is_standby}}
+use Rattle.rm_standby_store.{specs.Names.{IsStandby, standby_name}, proofs.Naming.{name-apart}}
+use Rattle.rm_tool_standby.specs.{Asked.{Sides}, Done.{Comes, ComesTo, made, was_rolled}, Ended.{Finishes, Takes}}
+use Rattle.rm_tool_standby.specs.{Kept.{Finds, IsNoneOf, Replaced, found_after, next_number}, Refused.{number_refusal}}
+use Rattle.rm_tool_standby.proofs.{Stopped.{new-found, next-fits}, Working.{both-none}}
 
 -- each member that is made so has every block
 all-full : {X : Type 0} (make : X → SetFile) → ((x : X) → has_all (make x).piece.kind ≡ true) → (xs : List X) → list_all (λ (m : SetFile). has_all m.piece.kind) (map make xs) ≡ true

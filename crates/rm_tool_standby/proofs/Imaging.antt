@@ -1,46 +1,22 @@
 -- What is recovered of the current incarnation can stand as a standby, and has the states where the history made it.
+use Rattle.std.specs.{Prelude.{sum_by, ◌^◌, ◌-◌}, Option.{option_map_or}}
 use Rattle.std.proofs.Common.{◌≡◌, ◌<◌, ◌≤◌, ◌+◌, ◌∙◌, ℕ, zero, suc, List, [], ◌∷◌, Option, Some, None, Contains, length, map, slice_get, refl, ap, sym, subst, arith, true}
-use Rattle.std.specs.Prelude.{sum_by, ◌^◌, ◌-◌}
-use Rattle.std.specs.Option.{option_map_or}
-use Rattle.std.proofs.lemmas.List.Elements.{All-contains}
-use Rattle.std.proofs.lemmas.List.Sums.{sum_by-cons}
-use Rattle.std.proofs.lemmas.Option.{slice_get_within}
-use Rattle.rm_apply.specs.Recover.{TellsAll, outside}
-use Rattle.rm_apply.specs.Told.{AreFilesAt, IsTold}
-use Rattle.rm_apply.specs.declared.recovering.Recovered.{Recovered}
-use Rattle.rm_base.proofs.Lists.{map_from, map_to}
-use Rattle.rm_base.proofs.Members.{behind, in-front}
-use Rattle.rm_base.proofs.Slots.{all-get}
-use Rattle.rm_base.specs.Store.{Held}
-use Rattle.rm_base.specs.declared.block.Change.{Change}
-use Rattle.rm_base.specs.declared.block.Row.{Row}
+use Rattle.std.proofs.lemmas.{List.{Elements.{All-contains}, Sums.{sum_by-cons}}, Option.{slice_get_within}}
+use Rattle.rm_apply.specs.{Recover.{TellsAll, outside}, Told.{AreFilesAt, IsTold}, declared.recovering.Recovered.{Recovered}}
+use Rattle.rm_base.{specs.{Store.{Held}, declared.block.{Change.{Change}, Row.{Row}}}, proofs.Lists.{map_from, map_to}}
+use Rattle.rm_base.proofs.{Members.{behind, in-front}, Slots.{all-get}}
 use Rattle.rm_blocks.specs.File.{File}
-use Rattle.rm_catalog_typed.specs.LedgerFacts.{IsCreated}
-use Rattle.rm_catalog_typed.specs.TypedCatalog.{records_of}
-use Rattle.rm_dup.proofs.Back.{solid}
-use Rattle.rm_dup.proofs.Blocks.{few-blocks}
-use Rattle.rm_dup.proofs.Source.{within}
-use Rattle.rm_dup.specs.Copies.{as_first}
-use Rattle.rm_evidence.proofs.Contents.{seen-content}
-use Rattle.rm_evidence.proofs.Extending.{unmapped-pairs}
-use Rattle.rm_evidence.specs.Known.{known_of}
-use Rattle.rm_history.specs.History.{IsHistory}
-use Rattle.rm_history.specs.State.{rows_from, states}
-use Rattle.rm_history.specs.Tree.{IsThere, end_of, owner, reset_of}
-use Rattle.rm_history.specs.World.{blocks_of, exists, file_of}
-use Rattle.rm_history.specs.declared.world.Datafile.{Datafile}
-use Rattle.rm_history.specs.declared.world.World.{World}
-use Rattle.rm_machine.specs.Recovery.{AreMadeAt, file_at, in_place}
-use Rattle.rm_machine.specs.Sound.{IsSound}
-use Rattle.rm_machine.specs.State.{current_of, ledger, tree, world}
-use Rattle.rm_machine.specs.declared.state.State.{State}
-use Rattle.rm_machine.proofs.Numbers.{file-place}
-use Rattle.rm_machine.proofs.Standing.{each-get, each-in}
+use Rattle.rm_catalog_typed.specs.{LedgerFacts.{IsCreated}, TypedCatalog.{records_of}}
+use Rattle.rm_dup.{specs.Copies.{as_first}, proofs.{Back.{solid}, Blocks.{few-blocks}, Source.{within}}}
+use Rattle.rm_evidence.{specs.Known.{known_of}, proofs.{Contents.{seen-content}, Extending.{unmapped-pairs}}}
+use Rattle.rm_history.specs.{History.{IsHistory}, State.{rows_from, states}, Tree.{IsThere, end_of, owner, reset_of}}
+use Rattle.rm_history.specs.{World.{blocks_of, exists, file_of}, declared.world.{Datafile.{Datafile}, World.{World}}}
+use Rattle.rm_machine.specs.{Recovery.{AreMadeAt, file_at, in_place}, Sound.{IsSound}, State.{current_of, ledger, tree, world}}
+use Rattle.rm_machine.{specs.declared.state.State.{State}, proofs.{Numbers.{file-place}, Standing.{each-get, each-in}}}
 use Rattle.rm_machine.proofs.Told.{tells-files, tells-fits}
 use Rattle.rm_plan.specs.Plan.{IsFileTarget}
 use Rattle.rm_piece.specs.declared.set.Set.{Set}
-use Rattle.rm_standby.specs.Image.{AreStates, CanImage, StandsAt, imaged}
-use Rattle.rm_standby.specs.Standby.{HoldsStates}
+use Rattle.rm_standby.specs.{Image.{AreStates, CanImage, StandsAt, imaged}, Standby.{HoldsStates}}
 
 -- the rows of datafiles are as many as their blocks
 same-blocks : (w : World) (xs : List File) → ((x : File) → Contains xs x → length x.rows ≡ blocks_of w x.file)

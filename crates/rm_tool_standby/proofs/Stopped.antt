@@ -1,19 +1,12 @@
 -- Where a new standby was to take the place of that of before and was stopped, one of them is found.
-use Rattle.std.proofs.Common.{◌≡◌, ◌≢◌, ◌⊎◌, inl, inr, ◌<◌, ◌≤◌, ◌+◌, ◌^◌, ◌∙◌, ℕ, Bool, true, false, List, Option, Some, None, ap, sym, subst, arith, if◌then◌else◌, nat_lt, rules, refl}
 use Rattle.std.specs.Str.{bytes_eq}
-use Rattle.std.proofs.lemmas.Bool.{cases_eq}
-use Rattle.std.proofs.lemmas.Slice.Eq.{bytes_eq-Decides}
-use Rattle.rm_base.specs.Store.{Held, SameBut}
-use Rattle.rm_base.specs.declared.refusal.Limit.TheVariants.{ObjectIds}
-use Rattle.rm_base.specs.declared.refusal.Refusal.TheVariants.{Rm11}
-use Rattle.rm_piece.specs.SetSpelling.{set_spelling}
-use Rattle.rm_piece.specs.Sets.{IsSet}
-use Rattle.rm_piece.specs.declared.set.Set.{Set}
+use Rattle.std.proofs.Common.{◌≡◌, ◌≢◌, ◌⊎◌, inl, inr, ◌<◌, ◌≤◌, ◌+◌, ◌^◌, ◌∙◌, ℕ, Bool, true, false, List, Option, Some, None, ap, sym, subst, arith, if◌then◌else◌, nat_lt, rules, refl}
+use Rattle.std.proofs.lemmas.{Bool.{cases_eq}, Slice.Eq.{bytes_eq-Decides}}
+use Rattle.rm_base.specs.{Store.{Held, SameBut}, declared.refusal.{Limit.TheVariants.{ObjectIds}, Refusal.TheVariants.{Rm11}}}
+use Rattle.rm_piece.specs.{SetSpelling.{set_spelling}, Sets.{IsSet}, declared.set.Set.{Set}}
 use Rattle.rm_standby.specs.Standby.{is_standby}
-use Rattle.rm_standby_store.proofs.Naming.{name-apart}
-use Rattle.rm_standby_store.specs.Names.{IsBelow, IsStandby, StandsAs, standby_name}
-use Rattle.rm_tool_standby.specs.Kept.{StoppedIn, TornSpellsNone, in_put, in_remove, next_number}
-use Rattle.rm_tool_standby.specs.Refused.{number_refusal}
+use Rattle.rm_standby_store.{specs.Names.{IsBelow, IsStandby, StandsAs, standby_name}, proofs.Naming.{name-apart}}
+use Rattle.rm_tool_standby.specs.{Kept.{StoppedIn, TornSpellsNone, in_put, in_remove, next_number}, Refused.{number_refusal}}
 
 -- the next number is one that a standby can have, above that of before
 by-left : (k : ℕ) (b : Bool) → nat_lt k 4294967295 ≡ b → (if b then None else Some (Rm11 ObjectIds)) ≡ None → k + 1 ≤ 4294967295

@@ -1,39 +1,23 @@
 -- What a task comes to, of the calls below it.
-use Rattle.std.proofs.Common.{◌≡◌, ◌++◌, ℕ, List, [], ◌∷◌, Option, Some, None, refl, sym, subst}
-use Rattle.std.specs.Prelude.{IsSomeAnd}
-use Rattle.rm_apply.specs.Recover.{TellsAll}
-use Rattle.rm_apply.specs.declared.recovering.Recovered.{Recovered}
-use Rattle.rm_base.specs.Store.{Held}
-use Rattle.rm_base.specs.declared.block.Change.{Change}
-use Rattle.rm_base.specs.declared.refusal.Refusal.{Refusal}
+use Rattle.std.{specs.Prelude.{IsSomeAnd}, proofs.Common.{◌≡◌, ◌++◌, ℕ, List, [], ◌∷◌, Option, Some, None, refl, sym, subst}}
+use Rattle.rm_apply.specs.{Recover.{TellsAll}, declared.recovering.Recovered.{Recovered}}
+use Rattle.rm_base.specs.{Store.{Held}, declared.{block.Change.{Change}, refusal.Refusal.{Refusal}}}
 use Rattle.rm_catalog.specs.declared.record.Record.{Record}
 use Rattle.rm_catalog_typed.specs.TypedCatalog.{records_of}
 use Rattle.rm_history.specs.History.{IsHistory}
 use Rattle.rm_lang_statement.specs.declared.command.Until.TheVariants.{Scn}
-use Rattle.rm_lang_words.specs.declared.standby.StandbyTask.{StandbyTask}
-use Rattle.rm_lang_words.specs.declared.standby.StandbyTask.TheVariants.{Dump, Make, Roll}
-use Rattle.rm_machine.specs.Recovery.{AreMadeAt, in_place, skipped_lines}
-use Rattle.rm_machine.specs.RecoverTest.{test_refusal}
-use Rattle.rm_machine.specs.Sound.{IsSound}
-use Rattle.rm_machine.specs.State.{current_of, ledger, tree, world}
-use Rattle.rm_machine.specs.Until.{or_else}
-use Rattle.rm_machine.specs.declared.state.State.{State}
+use Rattle.rm_lang_words.specs.declared.standby.StandbyTask.{StandbyTask, TheVariants.{Dump, Make, Roll}}
+use Rattle.rm_machine.specs.{Recovery.{AreMadeAt, in_place, skipped_lines}, RecoverTest.{test_refusal}, Sound.{IsSound}}
+use Rattle.rm_machine.specs.{State.{current_of, ledger, tree, world}, Until.{or_else}, declared.state.State.{State}}
 use Rattle.rm_machine_laws.specs.Holds.{View}
-use Rattle.rm_piece.specs.Sets.{IsSet}
-use Rattle.rm_piece.specs.declared.set.Set.{Set}
+use Rattle.rm_piece.specs.{Sets.{IsSet}, declared.set.Set.{Set}}
 use Rattle.rm_report.specs.declared.line.Line.{Line}
-use Rattle.rm_standby.specs.Image.{imaged}
-use Rattle.rm_standby.specs.Rolling.{Meets, changed, rolled}
-use Rattle.rm_standby.specs.Standby.{HoldsSince, HoldsStates}
+use Rattle.rm_standby.specs.{Image.{imaged}, Rolling.{Meets, changed, rolled}, Standby.{HoldsSince, HoldsStates}}
 use Rattle.rm_tool_opening.specs.Opening.{IsSource}
-use Rattle.rm_tool_standby.specs.Asked.{sides}
-use Rattle.rm_tool_standby.specs.Done.{ComesTo, dump_lines, dumped, made, made_line, rolled_line, was_rolled}
-use Rattle.rm_tool_standby.specs.Kept.{Finds}
+use Rattle.rm_tool_standby.specs.{Asked.{sides}, Done.{ComesTo, dump_lines, dumped, made, made_line, rolled_line, was_rolled}, Kept.{Finds}}
 use Rattle.rm_tool_standby.specs.Prepared.{IsReady, IsWork, OfShown, ready_of}
 use Rattle.rm_tool_standby.specs.Refused.{FindsIncrement, Refuses, RefusesBy, make_refusal, number_refusal}
-use Rattle.rm_tool_standby.specs.declared.preparing.Ready.{Ready}
-use Rattle.rm_tool_standby.specs.declared.work.Work.{Work}
-use Rattle.rm_tool_standby.proofs.Dated.{dump-dated, made-dated, one-dated}
+use Rattle.rm_tool_standby.{specs.declared.{preparing.Ready.{Ready}, work.Work.{Work}}, proofs.Dated.{dump-dated, made-dated, one-dated}}
 use Rattle.rm_tool_standby.proofs.Exact.{made-exact, rolled-exact}
 
 -- where none of two reasons is there

@@ -1,33 +1,17 @@
 -- What a standby comes to: what is put, and what is told.
 use Rattle.std.specs.Prelude.{ℕ, ◌≡◌, ◌++◌, Option, Some, None, List, [], ◌∷◌, length}
-use Rattle.rm_apply.specs.Recover.{TellsAll}
-use Rattle.rm_apply.specs.declared.recovering.Recovered.{Recovered}
+use Rattle.rm_apply.specs.{Recover.{TellsAll}, declared.recovering.Recovered.{Recovered}}
 use Rattle.rm_blocks.specs.File.{File}
 use Rattle.rm_catalog_typed.specs.TypedCatalog.{records_of}
-use Rattle.rm_lang_words.specs.declared.standby.StandbyTask.{StandbyTask}
-use Rattle.rm_lang_words.specs.declared.standby.StandbyTask.TheVariants.{Make, Roll, Dump}
-use Rattle.rm_machine.specs.Machine.{DigestsTell}
-use Rattle.rm_machine.specs.Recovery.{in_place, skipped_lines}
-use Rattle.rm_machine.specs.RecoverTest.{file_lines}
-use Rattle.rm_machine.specs.Sound.{IsSound}
-use Rattle.rm_machine.specs.State.{current_of, ledger, tree, world}
-use Rattle.rm_machine.specs.declared.state.State.{State}
+use Rattle.rm_lang_words.specs.declared.standby.StandbyTask.{StandbyTask, TheVariants.{Make, Roll, Dump}}
+use Rattle.rm_machine.specs.{Machine.{DigestsTell}, Recovery.{in_place, skipped_lines}, RecoverTest.{file_lines}, Sound.{IsSound}}
+use Rattle.rm_machine.specs.{State.{current_of, ledger, tree, world}, declared.state.State.{State}}
 use Rattle.rm_machine_laws.specs.Holds.{View}
-use Rattle.rm_piece.specs.Sets.{IsSet}
-use Rattle.rm_piece.specs.declared.set.Set.{Set}
-use Rattle.rm_piece.specs.declared.set.SetFile.{SetFile}
-use Rattle.rm_report.specs.Reply.{said}
-use Rattle.rm_report.specs.Text.{reply_text}
-use Rattle.rm_report.specs.declared.line.Line.{Line}
-use Rattle.rm_report.specs.declared.line.Line.TheVariants.{StandbyMade, StandbyRolled, UntilIs}
-use Rattle.rm_standby.specs.Image.{imaged}
-use Rattle.rm_standby.specs.Rolling.{Meets, changed, rolled}
-use Rattle.rm_standby.specs.Standby.{HoldsSince, HoldsStates}
-use Rattle.rm_tool_opening.specs.Opening.{IsSource}
-use Rattle.rm_tool_opening.specs.Opening.{FromRest}
-use Rattle.rm_tool_standby.specs.Asked.{Sides}
-use Rattle.rm_tool_standby.specs.Kept.{Finds, next_number}
-use Rattle.rm_tool_standby.specs.Refused.{FindsIncrement, make_refusal, number_refusal}
+use Rattle.rm_piece.specs.{Sets.{IsSet}, declared.set.{Set.{Set}, SetFile.{SetFile}}}
+use Rattle.rm_report.specs.{Reply.{said}, Text.{reply_text}, declared.line.Line.{Line, TheVariants.{StandbyMade, StandbyRolled, UntilIs}}}
+use Rattle.rm_standby.specs.{Image.{imaged}, Rolling.{Meets, changed, rolled}, Standby.{HoldsSince, HoldsStates}}
+use Rattle.rm_tool_opening.specs.Opening.{IsSource, FromRest}
+use Rattle.rm_tool_standby.specs.{Asked.{Sides}, Kept.{Finds, next_number}, Refused.{FindsIncrement, make_refusal, number_refusal}}
 
 -- the line of a standby that was made, under the next number
 abbrev pub made_line : Option (ℕ × Set) → Set → Line

@@ -1,19 +1,12 @@
 -- How a standby ends, and what it leaves.
 use Rattle.std.specs.Prelude.{ℕ, ◌≡◌, Option, Some, None, List}
-use Rattle.rm_base.specs.Outside.{Appends}
-use Rattle.rm_base.specs.Store.{Held}
-use Rattle.rm_base.specs.declared.refusal.Refusal.{Refusal}
+use Rattle.rm_base.specs.{Outside.{Appends}, Store.{Held}, declared.refusal.Refusal.{Refusal}}
 use Rattle.rm_lang_words.specs.declared.standby.StandbyTask.{StandbyTask}
 use Rattle.rm_piece.specs.declared.set.Set.{Set}
 use Rattle.rm_report.specs.declared.line.Line.{Line}
 use Rattle.rm_tool_opening.specs.Opening.{BeginsBadRecord, TellsValid, WritesBadRecord}
-use Rattle.rm_tool_ends.specs.Writing.{WritesFront, refusal_line}
-use Rattle.rm_tool_ends.specs.declared.ended.Ended.{Ended}
-use Rattle.rm_tool_ends.specs.declared.ended.Ended.TheVariants as ended
-use Rattle.rm_tool_standby.specs.Asked.{Sides}
-use Rattle.rm_tool_standby.specs.Done.{Comes, text_of}
-use Rattle.rm_tool_standby.specs.Kept.{Replaces, Stops}
-use Rattle.rm_tool_standby.specs.Refused.{Refuses}
+use Rattle.rm_tool_ends.specs.{Writing.{WritesFront, refusal_line}, declared.ended.Ended.{Ended, TheVariants as ended}}
+use Rattle.rm_tool_standby.specs.{Asked.{Sides}, Done.{Comes, text_of}, Kept.{Replaces, Stops}, Refused.{Refuses}}
 
 -- a new standby takes the place of that of before; without a new one nothing changes
 abbrev pub Takes : Option (ℕ × Set) → Option Set → Option Held → Option Held → Type 0

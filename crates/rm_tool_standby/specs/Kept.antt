@@ -1,10 +1,7 @@
 -- A standby in its store: which one it is, and how a new one takes the place of it.
-use Rattle.std.specs.Prelude.{ℕ, ◌≡◌, ◌≢◌, ◌+◌, true, Option, Some, None, IfSome, List}
-use Rattle.std.specs.Option.{option_map_or}
+use Rattle.std.specs.{Prelude.{ℕ, ◌≡◌, ◌≢◌, ◌+◌, true, Option, Some, None, IfSome, List}, Option.{option_map_or}}
 use Rattle.rm_base.specs.Store.{Both, Held, SameBut}
-use Rattle.rm_piece.specs.SetSpelling.{set_spelling}
-use Rattle.rm_piece.specs.Sets.{IsSet}
-use Rattle.rm_piece.specs.declared.set.Set.{Set}
+use Rattle.rm_piece.specs.{SetSpelling.{set_spelling}, Sets.{IsSet}, declared.set.Set.{Set}}
 use Rattle.rm_standby.specs.Standby.{is_standby}
 use Rattle.rm_standby_store.specs.Names.{IsStandby, standby_name}
 

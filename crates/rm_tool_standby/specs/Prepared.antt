@@ -1,25 +1,16 @@
 -- What a call has at hand before anything changes.
-use Rattle.std.specs.Prelude.{ℕ, ◌≡◌, All, IfSome, IsSomeAnd, List, None, Option, Some}
-use Rattle.std.specs.Option.{option_map}
+use Rattle.std.specs.{Prelude.{ℕ, ◌≡◌, All, IfSome, IsSomeAnd, List, None, Option, Some}, Option.{option_map}}
 use Rattle.rm_base.specs.Store.{Held}
 use Rattle.rm_catalog.specs.declared.record.Record.{Record}
 use Rattle.rm_lang_words.specs.declared.standby.StandbyTask.{StandbyTask}
 use Rattle.rm_machine.specs.declared.state.State.{State}
 use Rattle.rm_machine_laws.specs.Holds.{View}
-use Rattle.rm_piece.specs.SetSpelling.{set_spelling}
-use Rattle.rm_piece.specs.Sets.{IsSet}
-use Rattle.rm_piece.specs.declared.set.Set.{Set}
-use Rattle.rm_report.specs.Reply.{LineHasDate}
-use Rattle.rm_report.specs.declared.line.Line.{Line}
+use Rattle.rm_piece.specs.{SetSpelling.{set_spelling}, Sets.{IsSet}, declared.set.Set.{Set}}
+use Rattle.rm_report.specs.{Reply.{LineHasDate}, declared.line.Line.{Line}}
 use Rattle.rm_standby_store.specs.Names.{standby_name}
 use Rattle.rm_tool_opening.specs.Opening.{IsSource}
-use Rattle.rm_tool_standby.specs.Asked.{Sides, sides}
-use Rattle.rm_tool_standby.specs.Done.{Comes, ComesTo, text_of}
-use Rattle.rm_tool_standby.specs.Kept.{Stops, next_number}
-use Rattle.rm_tool_standby.specs.Refused.{number_refusal}
-use Rattle.rm_tool_standby.specs.declared.keeping.Change.{Change}
-use Rattle.rm_tool_standby.specs.declared.preparing.Ready.{Ready}
-use Rattle.rm_tool_standby.specs.declared.work.Work.{Work}
+use Rattle.rm_tool_standby.specs.{Asked.{Sides, sides}, Done.{Comes, ComesTo, text_of}, Kept.{Stops, next_number}, Refused.{number_refusal}}
+use Rattle.rm_tool_standby.specs.declared.{keeping.Change.{Change}, preparing.Ready.{Ready}, work.Work.{Work}}
 
 -- whatever records the database has that is shown so, this is so of the sides
 abbrev pub OfShown : Option Held → Option Held → State → (Sides → Type 0) → Type 0

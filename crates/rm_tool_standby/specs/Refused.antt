@@ -1,27 +1,19 @@
 -- Why a standby is refused.
 use Rattle.std.specs.Prelude.{ℕ, ◌≡◌, nat_lt, codes, if◌then◌else◌, Option, Some, None, IfSome, slice_get}
 use Rattle.std.specs.Option.{option_map_or, option_and_then}
-use Rattle.rm_base.specs.Store.{Held}
-use Rattle.rm_base.specs.declared.refusal.Limit.TheVariants.{ObjectIds}
-use Rattle.rm_base.specs.declared.refusal.Refusal.{Refusal}
-use Rattle.rm_base.specs.declared.refusal.Refusal.TheVariants.{Rm02, Rm11, Rm12, Rm19}
-use Rattle.rm_base.specs.declared.refusal.Unknown.TheVariants.{Object}
+use Rattle.rm_base.specs.{Store.{Held}, declared.refusal.{Limit.TheVariants.{ObjectIds}, Refusal.{Refusal}}}
+use Rattle.rm_base.specs.declared.refusal.{Refusal.TheVariants.{Rm02, Rm11, Rm12, Rm19}, Unknown.TheVariants.{Object}}
 use Rattle.rm_evidence.specs.Names.{roll_name}
 use Rattle.rm_lang_statement.specs.declared.command.Until.TheVariants.{Scn}
-use Rattle.rm_lang_words.specs.declared.standby.StandbyTask.{StandbyTask}
-use Rattle.rm_lang_words.specs.declared.standby.StandbyTask.TheVariants.{Make, Roll, Dump}
-use Rattle.rm_machine.specs.RecoverTest.{test_refusal}
-use Rattle.rm_machine.specs.State.{current_of, tree}
-use Rattle.rm_machine.specs.Until.{or_else}
-use Rattle.rm_machine.specs.declared.state.State.{State}
+use Rattle.rm_lang_words.specs.declared.standby.StandbyTask.{StandbyTask, TheVariants.{Make, Roll, Dump}}
+use Rattle.rm_machine.specs.{RecoverTest.{test_refusal}, State.{current_of, tree}, Until.{or_else}, declared.state.State.{State}}
 use Rattle.rm_machine_laws.specs.Holds.{View}
 use Rattle.rm_piece.specs.declared.set.Set.{Set}
 use Rattle.rm_standby_store.specs.Names.{SpellsSet}
 use Rattle.rm_standby.specs.Rolling.{Meets}
 use Rattle.rm_step_recover.specs.Gap.{NamesGap}
 use Rattle.rm_tool_opening.specs.Opening.{IsSource}
-use Rattle.rm_tool_standby.specs.Asked.{Sides}
-use Rattle.rm_tool_standby.specs.Kept.{Finds}
+use Rattle.rm_tool_standby.specs.{Asked.{Sides}, Kept.{Finds}}
 
 -- no number is left for a new standby
 abbrev pub number_refusal : Option (ℕ × Set) → Option Refusal

@@ -1,16 +1,10 @@
 //! How a new standby takes the place of that of before.
-ghost use Rattle.std.specs.Prelude.{ℕ, ◌≡◌, ◌≤◌, IfOk, IsErrOf, IsSome, None, OnErr, OnOk, Option};
-ghost use Rattle.std.specs.Option.{option_map};
-ghost use Rattle.rm_base.specs.Outside.{Rose};
-ghost use Rattle.rm_base.specs.Store.{Both};
-ghost use Rattle.rm_base.specs.declared.store.StoreFail.TheVariants.{Failed};
-ghost use Rattle.rm_piece.specs.Sets.{IsSet};
-ghost use Rattle.rm_piece.specs.declared.set.Set.{Set};
+ghost use Rattle.std.specs.{Prelude.{ℕ, ◌≡◌, ◌≤◌, IfOk, IsErrOf, IsSome, None, OnErr, OnOk, Option}, Option.{option_map}};
+ghost use Rattle.rm_base.specs.{Outside.{Rose}, Store.{Both}, declared.store.StoreFail.TheVariants.{Failed}};
+ghost use Rattle.rm_piece.specs.{Sets.{IsSet}, declared.set.Set.{Set}};
 ghost use Rattle.rm_standby_store.specs.Names.{standby_name};
-ghost use Rattle.rm_tool_standby.specs.Ended.{Takes};
-ghost use Rattle.rm_tool_standby.specs.Kept.{IsGone, OthersAre, Replaces, Stops};
-ghost use Rattle.rm_tool_standby.specs.Prepared.{IsFit, StopsAt};
-ghost use Rattle.rm_tool_standby.specs.Prepared.{change_of as the_change, changes as the_changes};
+ghost use Rattle.rm_tool_standby.specs.{Ended.{Takes}, Kept.{IsGone, OthersAre, Replaces, Stops}};
+ghost use Rattle.rm_tool_standby.specs.Prepared.{IsFit, StopsAt, change_of as the_change, changes as the_changes};
 ghost use Rattle.rm_tool_standby.specs.Refused.{number_refusal};
 
 use crate::numbering::next_number;

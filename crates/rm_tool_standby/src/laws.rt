@@ -3,16 +3,12 @@ ghost use Rattle.std.specs.Prelude.{ℕ, ◌≡◌, ◌⊎◌, List, None, Optio
 ghost use Rattle.rm_base.specs.Store.{Held};
 ghost use Rattle.rm_lang_words.specs.declared.standby.StandbyTask.{StandbyTask};
 ghost use Rattle.rm_machine.specs.declared.state.State.{State};
-ghost use Rattle.rm_piece.specs.Sets.{IsSet};
-ghost use Rattle.rm_piece.specs.declared.set.Set.{Set};
+ghost use Rattle.rm_piece.specs.{Sets.{IsSet}, declared.set.Set.{Set}};
 ghost use Rattle.rm_report.specs.declared.line.Line.{Line};
 ghost use Rattle.rm_standby.specs.Standby.{is_standby};
 ghost use Rattle.rm_standby_store.specs.Names.{IsStandby};
-ghost use Rattle.rm_tool_standby.specs.Asked.{Sides};
-ghost use Rattle.rm_tool_standby.specs.Done.{ComesTo};
-ghost use Rattle.rm_tool_standby.specs.Ended.{Finishes};
-ghost use Rattle.rm_tool_standby.specs.Kept.{Finds, StoppedIn, TornSpellsNone, found_after, next_number};
-ghost use Rattle.rm_tool_standby.specs.Refused.{number_refusal};
+ghost use Rattle.rm_tool_standby.specs.{Asked.{Sides}, Done.{ComesTo}, Ended.{Finishes}};
+ghost use Rattle.rm_tool_standby.specs.{Kept.{Finds, StoppedIn, TornSpellsNone, found_after, next_number}, Refused.{number_refusal}};
 
 /// What is made and what is rolled is a standby, by which the next call goes on.
 pub fn what_is_new_is_a_standby()

@@ -1,22 +1,15 @@
 //! A standby that is made of what is recovered.
 ghost use Rattle.std.specs.Prelude.{◌≡◌, ◌≤◌, IfErr, IfOk, IsErrOf, List, None, Option, length};
 ghost use Rattle.rm_apply.specs.Recover.{TellsAll, outside};
-ghost use Rattle.rm_base.specs.Outside.{Rose};
-ghost use Rattle.rm_base.specs.Store.{Held};
-ghost use Rattle.rm_base.specs.declared.block.Change.{Change};
+ghost use Rattle.rm_base.specs.{Outside.{Rose}, Store.{Held}, declared.block.Change.{Change}};
 ghost use Rattle.rm_catalog_typed.specs.TypedCatalog.{records_of};
 ghost use Rattle.rm_history.specs.History.{IsHistory};
 ghost use Rattle.rm_lang_words.specs.declared.standby.StandbyTask.TheVariants.{Make};
-ghost use Rattle.rm_machine.specs.Recovery.{AreMadeAt, in_place};
-ghost use Rattle.rm_machine.specs.Sound.{IsSound};
-ghost use Rattle.rm_machine.specs.State.{current_of, ledger, tree, world};
+ghost use Rattle.rm_machine.specs.{Recovery.{AreMadeAt, in_place}, Sound.{IsSound}, State.{current_of, ledger, tree, world}};
 ghost use Rattle.rm_piece.specs.Sets.{IsSet};
 ghost use Rattle.rm_report.specs.Reply.{HasDate};
-ghost use Rattle.rm_standby.specs.Image.{imaged};
-ghost use Rattle.rm_standby.specs.Standby.{HoldsStates};
-ghost use Rattle.rm_tool_standby.specs.Prepared.{IsWork};
-ghost use Rattle.rm_tool_standby.specs.Refused.{RefusesTask};
-ghost use Rattle.rm_tool_standby.specs.Refused.{make_refusal as the_refusal};
+ghost use Rattle.rm_standby.specs.{Image.{imaged}, Standby.{HoldsStates}};
+ghost use Rattle.rm_tool_standby.specs.{Prepared.{IsWork}, Refused.{RefusesTask, make_refusal as the_refusal}};
 
 use crate::numbering::number_refusal;
 use crate::telling::made_lines;

@@ -1,7 +1,6 @@
 //! The number of a new standby.
 ghost use Rattle.std.specs.Prelude.{◌≡◌, None};
-ghost use Rattle.rm_tool_standby.specs.Kept.{next_number as the_next};
-ghost use Rattle.rm_tool_standby.specs.Refused.{number_refusal as the_refusal};
+ghost use Rattle.rm_tool_standby.specs.{Kept.{next_number as the_next}, Refused.{number_refusal as the_refusal}};
 
 use rm_base::{Limit, Refusal};
 use rm_piece::Set;

@@ -1,18 +1,15 @@
 //! All that a task wants before anything changes.
 ghost use Rattle.std.specs.Prelude.{ℕ, ◌≡◌, ◌≤◌, ◌⊎◌, All, IfErr, IfOk, IfSome, IsErrOf, IsSomeAnd, List, OnOk, Option, Some};
 ghost use Rattle.std.specs.Option.{option_copied};
-ghost use Rattle.rm_base.specs.Outside.{Rose};
+ghost use Rattle.rm_base.specs.{Outside.{Rose}, Store.{Held}};
 ghost use Rattle.rm_catalog.specs.declared.record.Record.{Record};
-ghost use Rattle.rm_base.specs.Store.{Held};
 ghost use Rattle.rm_lang_words.specs.declared.standby.StandbyTask.TheVariants.{Dump};
 ghost use Rattle.rm_machine.specs.Sound.{IsSound};
 ghost use Rattle.rm_piece.specs.Sets.{IsSet};
 ghost use Rattle.rm_report.specs.Reply.{HasDate, LineHasDate};
 ghost use Rattle.rm_tool_opening.specs.Opening.{IsSource};
 ghost use Rattle.rm_tool_ends.specs.Ended.{Counts, NoneFalls, RoseFor};
-ghost use Rattle.rm_tool_standby.specs.Asked.{sides};
-ghost use Rattle.rm_tool_standby.specs.Ended.{Leaves};
-ghost use Rattle.rm_tool_standby.specs.Prepared.{IsFit, IsReady, IsWork, OfShown, ready_of as the_ready};
+ghost use Rattle.rm_tool_standby.specs.{Asked.{sides}, Ended.{Leaves}, Prepared.{IsFit, IsReady, IsWork, OfShown, ready_of as the_ready}};
 ghost use Rattle.rm_tool_standby.specs.Refused.{RefusesBy, RefusesTask};
 
 use crate::keeping::{Change, changes};

@@ -1,14 +1,12 @@
 //! A standby that takes over an increment.
 ghost use Rattle.std.specs.Prelude.{◌≡◌, ◌≤◌, IfErr, IfOk, IfSome, IsErrOf, None, Option, Some};
-ghost use Rattle.rm_base.specs.Outside.{Rose};
-ghost use Rattle.rm_base.specs.Store.{Held};
+ghost use Rattle.rm_base.specs.{Outside.{Rose}, Store.{Held}};
 ghost use Rattle.rm_lang_words.specs.declared.standby.StandbyTask.TheVariants.{Roll};
 ghost use Rattle.rm_machine.specs.Sound.{IsSound};
 ghost use Rattle.rm_piece.specs.Sets.{IsSet};
 ghost use Rattle.rm_report.specs.Reply.{HasDate};
 ghost use Rattle.rm_tool_standby.specs.Prepared.{IsWork};
-ghost use Rattle.rm_tool_standby.specs.Refused.{FindsIncrement, RefusesRoll, RefusesTask};
-ghost use Rattle.rm_tool_standby.specs.Refused.{first_from as the_first, no_standby as the_refusal, number_refusal as the_number};
+ghost use Rattle.rm_tool_standby.specs.Refused.{FindsIncrement, RefusesRoll, RefusesTask, first_from as the_first, no_standby as the_refusal, number_refusal as the_number};
 
 use crate::numbering::number_refusal;
 use crate::telling::rolled_lines;

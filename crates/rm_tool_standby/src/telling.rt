@@ -1,7 +1,6 @@
 //! What is told of a standby.
 ghost use Rattle.std.specs.Prelude.{◌≡◌, ◌≤◌, ◌++◌, ◌∷◌, [], All, IfOk, None, OnOk, length};
-ghost use Rattle.rm_machine.specs.Recovery.{skipped_lines as the_skipped};
-ghost use Rattle.rm_machine.specs.RecoverTest.{file_lines};
+ghost use Rattle.rm_machine.specs.{Recovery.{skipped_lines as the_skipped}, RecoverTest.{file_lines}};
 ghost use Rattle.rm_piece.specs.Sets.{IsSet};
 ghost use Rattle.rm_report.specs.Reply.{LineHasDate};
 ghost use Rattle.rm_tool_standby.specs.Done.{dump_lines as the_dump, file_in, made_line, rolled_line, text_of as the_text};

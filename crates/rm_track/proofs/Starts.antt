@@ -1,7 +1,6 @@
 -- Which starts a switch keeps.
 use Rattle.std.proofs.Common.{◌≡◌, ◌∙◌, ℕ, zero, suc, ◌+◌, ◌-◌, ◌≤◌, List, [], ◌∷◌, ◌++◌, length, drop, ap, refl, arith}
-use Rattle.rm_track.specs.Bitmaps.{Bitmap, Tracked, ending, newest, switched}
-use Rattle.rm_track.specs.Told.{starts, starts_of}
+use Rattle.rm_track.specs.{Bitmaps.{Bitmap, Tracked, ending, newest, switched}, Told.{starts, starts_of}}
 
 starts-push : (xs : List Bitmap) (x : Bitmap) (start : ℕ) → starts_of (xs ++ x ∷ []) start ≡ starts_of xs x.start ++ start ∷ []
 starts-push [] x start = refl

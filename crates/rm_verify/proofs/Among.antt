@@ -1,20 +1,12 @@
 -- Whether a name is among names that ascend, by a binary search.
-use Rattle.std.proofs.Common.{◌≡◌, ◌∙◌, ◌+◌, ◌<◌, ℕ, Bool, true, false, List, [], length, get_or, Option, Some, None, Result, Ok, Err, is_ok, inl, inr, ap, refl, sym, arith}
-use Rattle.std.specs.Prelude.{IfSome, is_some}
-use Rattle.std.specs.Cmp.Lexicographic.{slice_cmp}
+use Rattle.std.specs.{Prelude.{IfSome, is_some}, Cmp.Lexicographic.{slice_cmp}}
 use Rattle.std.specs.List.Sorted.{IsSearchInRange, IsBinarySearchResult, IsNonDecreasingBy}
-use Rattle.std.specs.Ordering.{is_eq, is_lt, nat_cmp, ordering_index, ordering_reverse}
-use Rattle.std.specs.Str.{bytes_eq}
-use Rattle.std.specs.declared.cmp.Ordering.{Ordering}
+use Rattle.std.specs.{Ordering.{is_eq, is_lt, nat_cmp, ordering_index, ordering_reverse}, Str.{bytes_eq}, declared.cmp.Ordering.{Ordering}}
 use Rattle.std.specs.declared.cmp.Ordering.TheVariants.{Less, Equal, Greater}
-use Rattle.std.proofs.lemmas.Bool.{cases_lt}
-use Rattle.std.proofs.lemmas.Cmp.{nat_list_cmp_total, nat_list_eq_equiv}
-use Rattle.std.proofs.lemmas.List.Folds.{list_any_at, list_any_none}
-use Rattle.std.proofs.lemmas.List.Sorted.{searchable_from_sorted}
-use Rattle.std.proofs.lemmas.Map.Keys.{Less-from_sorted}
-use Rattle.std.proofs.lemmas.Map.Text.{is_eq-slice_cmp}
-use Rattle.std.proofs.lemmas.Map.Views.{Contains-from_any, list_any-from_Contains}
-use Rattle.std.proofs.lemmas.Slice.Eq.{bytes_eq-Decides}
+use Rattle.std.proofs.Common.{◌≡◌, ◌∙◌, ◌+◌, ◌<◌, ℕ, Bool, true, false, List, [], length, get_or, Option, Some, None, Result, Ok, Err, is_ok, inl, inr, ap, refl, sym, arith}
+use Rattle.std.proofs.lemmas.{Bool.{cases_lt}, Cmp.{nat_list_cmp_total, nat_list_eq_equiv}, List.Folds.{list_any_at, list_any_none}}
+use Rattle.std.proofs.lemmas.{List.Sorted.{searchable_from_sorted}, Map.{Keys.{Less-from_sorted}, Text.{is_eq-slice_cmp}}}
+use Rattle.std.proofs.lemmas.{Map.Views.{Contains-from_any, list_any-from_Contains}, Slice.Eq.{bytes_eq-Decides}}
 use Rattle.rm_base.specs.Store.{AreTheNames, Ascends, Held}
 use Rattle.rm_evidence.specs.Seen.{IsSeen}
 use Rattle.rm_verify.specs.Crosscheck.{is_among, stands_in}

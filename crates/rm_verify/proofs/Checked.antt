@@ -1,19 +1,12 @@
 -- What a crosscheck says of a record.
-use Rattle.std.proofs.Common.{◌≡◌, ◌∙◌, ℕ, Bool, true, false, cond, List, [], ◌∷◌, Option, Some, None, refl, ap, sym}
 use Rattle.std.specs.Option.{option_map}
+use Rattle.std.proofs.Common.{◌≡◌, ◌∙◌, ℕ, Bool, true, false, cond, List, [], ◌∷◌, Option, Some, None, refl, ap, sym}
 use Rattle.std.proofs.lemmas.Option.{same_Some}
-use Rattle.rm_base.specs.declared.kinds.Class.{Class}
-use Rattle.rm_base.specs.declared.kinds.Status.{Status}
-use Rattle.rm_catalog.specs.declared.record.Record.{Record}
-use Rattle.rm_catalog.specs.declared.record.Record.TheVariants.{Log, Piece, Set}
-use Rattle.rm_evidence.specs.Gathered.{Lists}
-use Rattle.rm_evidence.specs.Names.{object_id}
-use Rattle.rm_evidence.proofs.Single.{IsOfOne}
-use Rattle.rm_verify.specs.declared.object.Expected.{Expected}
-use Rattle.rm_verify.specs.Classes.{is_of, object_in}
-use Rattle.rm_verify.specs.Crosscheck.{IsChecked, checked, status_after}
-use Rattle.rm_verify.specs.Told.{Tells}
-use Rattle.rm_verify.proofs.Growing.{one-told, told-of-one}
+use Rattle.rm_base.specs.declared.kinds.{Class.{Class}, Status.{Status}}
+use Rattle.rm_catalog.specs.declared.record.Record.{Record, TheVariants.{Log, Piece, Set}}
+use Rattle.rm_evidence.{specs.{Gathered.{Lists}, Names.{object_id}}, proofs.Single.{IsOfOne}}
+use Rattle.rm_verify.specs.{Classes.{is_of, object_in}, Crosscheck.{IsChecked, checked, status_after}, Told.{Tells}}
+use Rattle.rm_verify.{specs.declared.object.Expected.{Expected}, proofs.Growing.{one-told, told-of-one}}
 
 -- what is said under a test is said where it passes
 pub passed : {X : Type 0} (b : Bool) (o : Option X) (x : X) → cond b o None ≡ Some x → (b ≡ true) × (o ≡ Some x)

@@ -1,29 +1,15 @@
 -- What a crosscheck calls expired is what validation calls missing.
+use Rattle.std.specs.{Prelude.{◌↔◌, IsTrue}, Option.{option_map}}
 use Rattle.std.proofs.Common.{◌≡◌, ◌∙◌, ℕ, Bool, true, cond, List, Option, Some, None, is_some, Contains, inl, inr, refl, ap, arith, sym, subst}
-use Rattle.std.specs.Prelude.{◌↔◌, IsTrue}
-use Rattle.std.specs.Option.{option_map}
-use Rattle.std.proofs.lemmas.Bool.{cases_lt}
-use Rattle.std.proofs.lemmas.Option.{same_Some}
-use Rattle.rm_base.specs.Store.{Held}
-use Rattle.rm_base.specs.declared.kinds.Bad.{Bad}
-use Rattle.rm_base.specs.declared.kinds.Bad.TheVariants.{Missing}
-use Rattle.rm_base.specs.declared.kinds.Class.{Class}
-use Rattle.rm_base.specs.declared.kinds.Status.{Status}
+use Rattle.std.proofs.lemmas.{Bool.{cases_lt}, Option.{same_Some}}
+use Rattle.rm_base.specs.{Store.{Held}, declared.kinds.{Bad.{Bad, TheVariants.{Missing}}, Class.{Class}, Status.{Status}}}
 use Rattle.rm_base.specs.declared.kinds.Status.TheVariants.{Available, Unavailable, Expired}
-use Rattle.rm_catalog.specs.declared.record.Record.{Record}
-use Rattle.rm_catalog.specs.declared.record.Record.TheVariants.{Log, Piece, Set}
-use Rattle.rm_catalog.specs.Keys.{at, place_of}
-use Rattle.rm_catalog.specs.Rules.{IsCatalog}
-use Rattle.rm_evidence.specs.Available.{IsBad, IsSkipped, IsSkippedAmong}
-use Rattle.rm_evidence.specs.Database.{Database, database_in}
-use Rattle.rm_evidence.specs.Names.{log_name, object_id, piece_name, set_name}
-use Rattle.rm_evidence.proofs.Found.{at-is}
-use Rattle.rm_evidence.proofs.Records.{IsBadRecord, bad-by, bad-to, only, skipped-single}
-use Rattle.rm_evidence.proofs.Runs.{apart}
-use Rattle.rm_verify.specs.declared.object.Expected.{Expected}
-use Rattle.rm_verify.specs.Classes.{is_of, object_in}
-use Rattle.rm_verify.specs.Crosscheck.{IsChecked, checked, stands_in, status_after}
-use Rattle.rm_verify.proofs.Checked as checks
+use Rattle.rm_catalog.specs.{Keys.{at, place_of}, Rules.{IsCatalog}, declared.record.Record.{Record, TheVariants.{Log, Piece, Set}}}
+use Rattle.rm_evidence.specs.{Available.{IsBad, IsSkipped, IsSkippedAmong}, Database.{Database, database_in}}
+use Rattle.rm_evidence.{specs.Names.{log_name, object_id, piece_name, set_name}, proofs.Found.{at-is}}
+use Rattle.rm_evidence.proofs.{Records.{IsBadRecord, bad-by, bad-to, only, skipped-single}, Runs.{apart}}
+use Rattle.rm_verify.specs.{Classes.{is_of, object_in}, Crosscheck.{IsChecked, checked, stands_in, status_after}}
+use Rattle.rm_verify.{specs.declared.object.Expected.{Expected}, proofs.Checked as checks}
 
 module _ (rs : List Record) (catalog : IsCatalog rs) where
   -- records at one place are one

@@ -1,19 +1,12 @@
 -- Lists that grow by what is told of one record after the other.
-use Rattle.std.proofs.Common.{◌≡◌, ◌≢◌, ◌∙◌, ◌+◌, ◌<◌, ◌≤◌, ℕ, List, [], ◌∷◌, ◌++◌, length, get_or, take, Option, Some, None, AllPairs, Contains, refl, ap, sym, subst, arith}
 use Rattle.std.specs.Prelude.{IsPermutation}
-use Rattle.std.proofs.Math.Seq.{take-length}
-use Rattle.std.proofs.lemmas.List.{take_more}
-use Rattle.std.proofs.lemmas.List.Sorted.{Contains-permutation, IsPermutation-sym}
+use Rattle.std.proofs.Common.{◌≡◌, ◌≢◌, ◌∙◌, ◌+◌, ◌<◌, ◌≤◌, ℕ, List, [], ◌∷◌, ◌++◌, length, get_or, take, Option, Some, None, AllPairs, Contains, refl, ap, sym, subst, arith}
+use Rattle.std.proofs.{Math.Seq.{take-length}, lemmas.List.{take_more, Sorted.{Contains-permutation, IsPermutation-sym}}}
 use Rattle.std.proofs.lemmas.Option.{same_Some}
 use Rattle.rm_base.proofs.Members.{in-front}
-use Rattle.rm_catalog.specs.declared.record.Record.{Record}
-use Rattle.rm_catalog.specs.Rules.{IsCatalog}
-use Rattle.rm_evidence.specs.Gathered.{Lists}
-use Rattle.rm_evidence.specs.Names.{object_id}
-use Rattle.rm_evidence.specs.Taking.{Extends}
-use Rattle.rm_evidence.proofs.Extending.{extends-none, extends-one, only-in}
-use Rattle.rm_evidence.proofs.Runs.{is-apart}
-use Rattle.rm_evidence.proofs.Single.{IsOfOne, extends-more}
+use Rattle.rm_catalog.specs.{Rules.{IsCatalog}, declared.record.Record.{Record}}
+use Rattle.rm_evidence.specs.{Gathered.{Lists}, Names.{object_id}, Taking.{Extends}}
+use Rattle.rm_evidence.proofs.{Extending.{extends-none, extends-one, only-in}, Runs.{is-apart}, Single.{IsOfOne, extends-more}}
 use Rattle.rm_verify.specs.Told.{Tells, with_found}
 
 -- they have different ids

@@ -1,31 +1,17 @@
 -- What is told of objects, one part after the other, and which records are skipped by it.
+use Rattle.std.specs.{Prelude.{Ok, Err}, Option.{option_map, option_map_or}}
 use Rattle.std.proofs.Common.{◌≡◌, ◌∙◌, ◌+◌, ◌<◌, ◌≤◌, ◌⊎◌, ℕ, inl, inr, List, [], ◌∷◌, ◌++◌, Option, Some, All, drop, get_or, length, map, take, refl, ap, sym, subst, arith}
-use Rattle.std.specs.Prelude.{Ok, Err}
-use Rattle.std.specs.Option.{option_map, option_map_or}
-use Rattle.std.proofs.lemmas.List.{get_or-map, length-drop, length-map}
-use Rattle.std.proofs.lemmas.List.Elements.{All-head, All-tail}
-use Rattle.rm_base.specs.Store.{Held}
-use Rattle.rm_base.specs.declared.kinds.Bad.{Bad}
-use Rattle.rm_base.specs.declared.kinds.Kind.{Kind}
-use Rattle.rm_base.specs.declared.kinds.Kind.TheVariants.{Level1}
+use Rattle.std.proofs.lemmas.List.{get_or-map, length-drop, length-map, Elements.{All-head, All-tail}}
+use Rattle.rm_base.specs.{Store.{Held}, declared.kinds.{Bad.{Bad}, Kind.{Kind, TheVariants.{Level1}}}}
 use Rattle.rm_catalog.specs.declared.record.Record.{Record}
-use Rattle.rm_evidence.specs.declared.evidence.Evidence.{Evidence}
-use Rattle.rm_evidence.specs.declared.evidence.InPlace.{InPlace}
-use Rattle.rm_evidence.specs.Available.{IsSkipped}
-use Rattle.rm_evidence.specs.Database.{database_in, dbid_in}
-use Rattle.rm_evidence.specs.Gathered.{Lists}
-use Rattle.rm_evidence.specs.Names.{object_id}
-use Rattle.rm_evidence.specs.Place.{placed_evidence}
-use Rattle.rm_evidence.specs.Seen.{IsSeen}
+use Rattle.rm_evidence.specs.{Available.{IsSkipped}, Database.{database_in, dbid_in}, Gathered.{Lists}, Names.{object_id}}
+use Rattle.rm_evidence.specs.{Place.{placed_evidence}, Seen.{IsSeen}}
 use Rattle.rm_evidence.specs.Taking.{Adds, AreObjects, HasId, with_piece, with_piece_of, with_pieces}
-use Rattle.rm_evidence.proofs.Ordered.{rows_of, told-all, told-more}
-use Rattle.rm_evidence.proofs.Runs.{adds-start}
-use Rattle.rm_evidence.proofs.Seen.{seen-all, seen-then}
+use Rattle.rm_evidence.specs.{Telling.{AreTold, Tells, stands_in, with_artefact, with_told}, declared.evidence.Evidence.{Evidence}}
+use Rattle.rm_evidence.specs.declared.{evidence.InPlace.{InPlace}, telling.Told.{Told, TheVariants.{Nothing, OfLog, OfPiece, OfSet}}}
+use Rattle.rm_evidence.proofs.{Ordered.{rows_of, told-all, told-more}, Runs.{adds-start}, Seen.{seen-all, seen-then}}
 use Rattle.rm_evidence.proofs.Tells.{adds-seen, first-left}
 use Rattle.rm_piece.specs.declared.piece.Piece.{Piece}
-use Rattle.rm_evidence.specs.declared.telling.Told.{Told}
-use Rattle.rm_evidence.specs.declared.telling.Told.TheVariants.{Nothing, OfLog, OfPiece, OfSet}
-use Rattle.rm_evidence.specs.Telling.{AreTold, Tells, stands_in, with_artefact, with_told}
 use Rattle.rm_verify.specs.Told.{reason, with_bad, with_found}
 
 -- nothing is in place

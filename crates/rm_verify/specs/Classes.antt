@@ -1,9 +1,7 @@
 -- Which records are of a class, and what a record says of its object.
 use Rattle.std.specs.Prelude.{Bool, true, false, not, Option, Some, None}
-use Rattle.rm_base.specs.declared.kinds.Class.{Class}
-use Rattle.rm_base.specs.declared.kinds.Class.TheVariants.{Backup, Copy, Archived}
-use Rattle.rm_catalog.specs.declared.record.Record.{Record}
-use Rattle.rm_catalog.specs.declared.record.Record.TheVariants.{Log, Piece, Set}
+use Rattle.rm_base.specs.declared.kinds.Class.{Class, TheVariants.{Backup, Copy, Archived}}
+use Rattle.rm_catalog.specs.declared.record.Record.{Record, TheVariants.{Log, Piece, Set}}
 use Rattle.rm_evidence.specs.Names.{log_name, piece_name, set_name}
 use Rattle.rm_verify.specs.declared.object.Expected.{Expected}
 

@@ -1,12 +1,7 @@
 -- What a crosscheck makes of the records of a class.
-use Rattle.std.specs.Prelude.{◌≡◌, ℕ, Bool, if◌then◌else◌, List, Contains, Option, Some, None, is_some}
-use Rattle.std.specs.List.{list_any}
-use Rattle.std.specs.Option.{option_map}
-use Rattle.std.specs.Str.{bytes_eq}
-use Rattle.rm_base.specs.Store.{Held}
-use Rattle.rm_base.specs.declared.kinds.Class.{Class}
-use Rattle.rm_base.specs.declared.kinds.Status.{Status}
-use Rattle.rm_base.specs.declared.kinds.Status.TheVariants.{Available, Unavailable, Expired}
+use Rattle.std.specs.{Prelude.{◌≡◌, ℕ, Bool, if◌then◌else◌, List, Contains, Option, Some, None, is_some}, List.{list_any}}
+use Rattle.std.specs.{Option.{option_map}, Str.{bytes_eq}}
+use Rattle.rm_base.specs.{Store.{Held}, declared.kinds.{Class.{Class}, Status.{Status, TheVariants.{Available, Unavailable, Expired}}}}
 use Rattle.rm_catalog.specs.declared.record.Record.{Record}
 use Rattle.rm_verify.specs.Classes.{is_of, object_in}
 

@@ -1,9 +1,7 @@
 -- What is told of one record after the other.
-use Rattle.std.specs.Prelude.{◌≡◌, ◌↔◌, ℕ, List, [], ◌∷◌, ◌++◌, Option, Some, None, Err}
-use Rattle.std.specs.Option.{option_map}
+use Rattle.std.specs.{Prelude.{◌≡◌, ◌↔◌, ℕ, List, [], ◌∷◌, ◌++◌, Option, Some, None, Err}, Option.{option_map}}
 use Rattle.rm_base.specs.declared.kinds.Bad.{Bad}
-use Rattle.rm_evidence.specs.declared.telling.Told.{Told}
-use Rattle.rm_evidence.specs.declared.telling.Told.TheVariants.{OfLog, OfPiece, OfSet}
+use Rattle.rm_evidence.specs.declared.telling.Told.{Told, TheVariants.{OfLog, OfPiece, OfSet}}
 
 -- what is told, if anything, is all that Is
 abbrev pub Tells : {A : Type 0} → (ℕ → A → Type 0) → Option (ℕ × A) → Type 0

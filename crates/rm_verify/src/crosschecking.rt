@@ -1,10 +1,7 @@
 //! The crosscheck: which status each record of a class gets.
 ghost use Rattle.std.specs.Prelude.{◌≡◌, ◌≤◌, [], IfOk, IsErrOf};
-ghost use Rattle.rm_base.specs.Outside.{Rose};
-ghost use Rattle.rm_base.specs.Store.{Ascends};
-ghost use Rattle.rm_base.specs.declared.kinds.Status.{Status as StatusOf};
-ghost use Rattle.rm_evidence.specs.Gathered.{Lists};
-ghost use Rattle.rm_evidence.specs.Seen.{IsSeen};
+ghost use Rattle.rm_base.specs.{Outside.{Rose}, Store.{Ascends}, declared.kinds.Status.{Status as StatusOf}};
+ghost use Rattle.rm_evidence.specs.{Gathered.{Lists}, Seen.{IsSeen}};
 ghost use Rattle.rm_verify.specs.Crosscheck.{IsChecked, checked, is_among, stands_in, status_after};
 
 use crate::found::add;

@@ -1,16 +1,11 @@
 //! What the definitions of the crosscheck and of validation mean together.
 ghost use Rattle.std.specs.Prelude.{◌≡◌, ◌↔◌, Bool, List, Contains, IsTrue, Some};
-ghost use Rattle.rm_base.specs.Store.{Held};
-ghost use Rattle.rm_base.specs.declared.kinds.Bad.TheVariants.{Missing};
-ghost use Rattle.rm_base.specs.declared.kinds.Class.{Class};
-ghost use Rattle.rm_base.specs.declared.kinds.Status.{Status};
+ghost use Rattle.rm_base.specs.{Store.{Held}, declared.kinds.{Bad.TheVariants.{Missing}, Class.{Class}, Status.{Status}}};
 ghost use Rattle.rm_base.specs.declared.kinds.Status.TheVariants.{Available, Expired};
-ghost use Rattle.rm_catalog.specs.declared.record.Record.{Record};
-ghost use Rattle.rm_catalog.specs.Rules.{IsCatalog};
+ghost use Rattle.rm_catalog.specs.{Rules.{IsCatalog}, declared.record.Record.{Record}};
 ghost use Rattle.rm_evidence.specs.Available.{IsSkipped};
+ghost use Rattle.rm_verify.specs.{Classes.{is_of, object_in}, Crosscheck.{IsChecked, stands_in, status_after}};
 ghost use Rattle.rm_verify.specs.declared.object.Expected.{Expected};
-ghost use Rattle.rm_verify.specs.Classes.{is_of, object_in};
-ghost use Rattle.rm_verify.specs.Crosscheck.{IsChecked, stands_in, status_after};
 
 /// Of the records of a class that count as available, those that a crosscheck calls expired are those that validation
 /// calls missing.

@@ -1,11 +1,7 @@
 //! Validation: the records that count as available, but whose objects can't be used.
 ghost use Rattle.std.specs.Prelude.{◌≡◌, ◌≤◌, All, [], IfOk, IsErrOf, OnOk, map};
-ghost use Rattle.rm_base.specs.Outside.{Rose};
-ghost use Rattle.rm_base.specs.declared.kinds.Bad.{Bad as BadOf};
-ghost use Rattle.rm_evidence.specs.Available.{IsSkipped};
-ghost use Rattle.rm_evidence.specs.Gathered.{Lists};
-ghost use Rattle.rm_evidence.specs.Seen.{IsSeen};
-ghost use Rattle.rm_evidence.specs.Taking.{HasId};
+ghost use Rattle.rm_base.specs.{Outside.{Rose}, declared.kinds.Bad.{Bad as BadOf}};
+ghost use Rattle.rm_evidence.specs.{Available.{IsSkipped}, Gathered.{Lists}, Seen.{IsSeen}, Taking.{HasId}};
 ghost use Rattle.rm_verify.specs.Told.{reason, with_bad};
 
 use crate::found::add;

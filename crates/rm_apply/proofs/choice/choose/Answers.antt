@@ -1,13 +1,9 @@
+use Rattle.std.specs.Option.{option_copied}
 use Rattle.std.proofs.Common.{◌≡◌, ◌+◌, ◌∷◌, ◌++◌, ◌∙◌, [], ℕ, List, Option, Some, true, false, refl, length, take, take_all, ap, sym, subst}
 use Rattle.std.proofs.lemmas.Option.{slice_get_read}
-use Rattle.std.specs.Option.{option_copied}
-use Rattle.rm_base.specs.Choice.{IsChoice}
-use Rattle.rm_base.proofs.Choices.{choice_passed, choice_only, choice_taken, choice_stays}
-use Rattle.rm_base.proofs.Lists.{take_more}
+use Rattle.rm_base.{specs.Choice.{IsChoice}, proofs.{Choices.{choice_passed, choice_only, choice_taken, choice_stays}, Lists.{take_more}}}
 use Rattle.rm_piece.specs.declared.piece.Piece.{Piece}
-use Rattle.rm_apply.specs.Restore.{ComesFirst, IsBackupFor, MayRestore}
-use Rattle.rm_apply.specs.Taking.{base_at}
-use Rattle.rm_apply.proofs.Orders.{itself, other_way, through}
+use Rattle.rm_apply.{specs.{Restore.{ComesFirst, IsBackupFor, MayRestore}, Taking.{base_at}}, proofs.Orders.{itself, other_way, through}}
 use Rattle.rm_apply.proofs.choice.choose.Goals as goal
 use Rattle.rm_apply.proofs.choice.choose.Goals.{then-may_restore+in-Some, then-may_restore+in_default-2, then-may_restore+in_default, else-may_restore}
 

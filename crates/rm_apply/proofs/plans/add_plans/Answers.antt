@@ -1,16 +1,9 @@
+use Rattle.std.specs.{Prelude.{Result}, Vec.Iter.{into_iter_items}}
 use Rattle.std.proofs.Common.{◌≡◌, ◌∙◌, ◌++◌, ◌∷◌, List, ap, arith, length, map, refl, rules, sym, subst}
-use Rattle.std.specs.Prelude.{Result}
-use Rattle.std.specs.Vec.Iter.{into_iter_items}
-use Rattle.rm_evidence.specs.Known.{known_of}
-use Rattle.rm_evidence.specs.Database.{world_of}
-use Rattle.rm_plan.specs.declared.plan.PlanFault.{PlanFault}
-use Rattle.rm_plan.proofs.Faults.{handed_on}
-use Rattle.rm_apply.specs.declared.plans.Plan.{Plan}
-use Rattle.rm_apply.specs.Applying.{AreTried}
-use Rattle.rm_apply.specs.Told.{IsFaultOfAll}
-use Rattle.rm_apply.proofs.Numbers.{number}
-use Rattle.rm_apply.proofs.Planning.{AreLeft, fault-left, next-left, none-left, of_plan}
-use Rattle.rm_apply.proofs.plans.add_plans.Goals as goal
+use Rattle.rm_evidence.specs.{Known.{known_of}, Database.{world_of}}
+use Rattle.rm_plan.{specs.declared.plan.PlanFault.{PlanFault}, proofs.Faults.{handed_on}}
+use Rattle.rm_apply.{specs.{Applying.{AreTried}, Told.{IsFaultOfAll}, declared.plans.Plan.{Plan}}, proofs.Numbers.{number}}
+use Rattle.rm_apply.proofs.{Planning.{AreLeft, fault-left, next-left, none-left, of_plan}, plans.add_plans.Goals as goal}
 
 pub loop-plan-init : goal.loop-plan-init
 loop-plan-init g c =

@@ -1,12 +1,8 @@
-use Rattle.std.proofs.Common.{◌≡◌, arith, length, rules, subst}
-use Rattle.std.specs.Prelude.{List, Result}
+use Rattle.std.{specs.Prelude.{List, Result}, proofs.Common.{◌≡◌, arith, length, rules, subst}}
 use Rattle.std.proofs.lemmas.Option.{get_or_from_slice_get, slice_get_within}
-use Rattle.rm_evidence.specs.Known.{known_of}
-use Rattle.rm_evidence.specs.Database.{world_of}
+use Rattle.rm_evidence.specs.{Known.{known_of}, Database.{world_of}}
 use Rattle.rm_plan.specs.declared.plan.PlanFault.{PlanFault}
-use Rattle.rm_apply.specs.declared.plans.Plan.{Plan}
-use Rattle.rm_apply.specs.Applying.{TriedAt}
-use Rattle.rm_apply.proofs.Planning.{tried-in-order}
+use Rattle.rm_apply.{specs.{Applying.{TriedAt}, declared.plans.Plan.{Plan}}, proofs.Planning.{tried-in-order}}
 use Rattle.rm_apply.proofs.plans.plan_each.Goals as goal
 
 pub returns : goal.returns

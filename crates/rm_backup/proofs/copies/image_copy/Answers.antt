@@ -1,9 +1,6 @@
 use Rattle.std.proofs.Common.{rules, ◌∷◌, [], Some, sym, subst}
 use Rattle.rm_catalog.specs.declared.record.Record.{Record}
-use Rattle.rm_backup.specs.Looking.{TellsFirst}
-use Rattle.rm_backup.specs.Records.{pieces}
-use Rattle.rm_backup.specs.Taken.{MayBeTaken}
-use Rattle.rm_backup.proofs.Choices.{tells_one}
+use Rattle.rm_backup.{specs.{Looking.{TellsFirst}, Records.{pieces}, Taken.{MayBeTaken}}, proofs.Choices.{tells_one}}
 use Rattle.rm_backup.proofs.copies.image_copy.Goals as goal
 
 pub returns-in-Piece : goal.returns-in-Piece

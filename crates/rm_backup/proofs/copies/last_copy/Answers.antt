@@ -1,9 +1,6 @@
 use Rattle.std.proofs.Common.{◌∙◌, List, Some, take_all, subst}
 use Rattle.rm_catalog.specs.declared.record.Record.{Record}
-use Rattle.rm_backup.specs.Looking.{TellsFirst}
-use Rattle.rm_backup.specs.Records.{pieces}
-use Rattle.rm_backup.specs.Taken.{MayBeTaken}
-use Rattle.rm_backup.proofs.Choices.{tells_more, tells_start}
+use Rattle.rm_backup.{specs.{Looking.{TellsFirst}, Records.{pieces}, Taken.{MayBeTaken}}, proofs.Choices.{tells_more, tells_start}}
 use Rattle.rm_backup.proofs.copies.last_copy.Goals as goal
 
 pub loop-row-init : goal.loop-row-init

@@ -1,9 +1,7 @@
 use Rattle.std.proofs.Common.{◌∙◌, ◌++◌, ◌∷◌, [], ℕ, List, Vec, Global, take, take_all, sym, subst, ap}
 use Rattle.rm_base.proofs.Lists.{take_more}
 use Rattle.rm_catalog.specs.declared.record.Record.{Record}
-use Rattle.rm_backup.specs.Level1s.{StartAbove}
-use Rattle.rm_backup.proofs.Kept.{above_none, above_more, above_passed}
-use Rattle.rm_backup.proofs.level1s.start_above.Goals as goal
+use Rattle.rm_backup.{specs.Level1s.{StartAbove}, proofs.{Kept.{above_none, above_more, above_passed}, level1s.start_above.Goals as goal}}
 use Rattle.rm_backup.proofs.level1s.start_above.Goals.{in-Some+in_ok-push, in_default}
 
 pub loop-row-init : goal.loop-row-init

@@ -1,9 +1,6 @@
-use Rattle.std.proofs.Common.{◌∙◌, List, take_all, subst}
-use Rattle.std.specs.Option.{option_copied}
+use Rattle.std.{specs.Option.{option_copied}, proofs.Common.{◌∙◌, List, take_all, subst}}
 use Rattle.rm_catalog.specs.declared.record.Record.{Record}
-use Rattle.rm_backup.specs.Looking.{TellsFirst}
-use Rattle.rm_backup.specs.Parents.{MayBeParent, among}
-use Rattle.rm_backup.proofs.Choices.{tells_more, tells_start}
+use Rattle.rm_backup.{specs.{Looking.{TellsFirst}, Parents.{MayBeParent, among}}, proofs.Choices.{tells_more, tells_start}}
 use Rattle.rm_backup.proofs.parents.last.Goals as goal
 
 pub loop-row-init : goal.loop-row-init

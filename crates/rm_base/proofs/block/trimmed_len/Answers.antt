@@ -1,9 +1,6 @@
-use Rattle.std.proofs.Common.{◌≡◌, ◌+◌, ◌++◌, ◌∷◌, [], ◌∙◌, take, ap, sym, arith, get_or}
-use Rattle.std.proofs.lemmas.Bool.{eq-eqb, ne_eqb}
+use Rattle.std.proofs.{Common.{◌≡◌, ◌+◌, ◌++◌, ◌∷◌, [], ◌∙◌, take, ap, sym, arith, get_or}, lemmas.Bool.{eq-eqb, ne_eqb}}
 use Rattle.std.proofs.lemmas.List.{take_more}
-use Rattle.rm_base.specs.Content.{trimmed}
-use Rattle.rm_base.proofs.Contents.{trimmed-zero, trimmed-other}
-use Rattle.rm_base.proofs.block.trimmed_len.Goals as goal
+use Rattle.rm_base.{specs.Content.{trimmed}, proofs.{Contents.{trimmed-zero, trimmed-other}, block.trimmed_len.Goals as goal}}
 use Rattle.rm_base.proofs.block.trimmed_len.Goals.{then-byte-ne0, else-byte-ne0}
 
 pub loop-i-preserved : goal.loop-i-preserved

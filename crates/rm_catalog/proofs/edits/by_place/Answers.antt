@@ -1,11 +1,6 @@
-use Rattle.std.proofs.Common.{rules, List, sym, ◌∙◌}
-use Rattle.std.specs.Prelude.{not, ◌&&◌}
-use Rattle.std.specs.Ordering.{is_lt, nat_cmp}
-use Rattle.std.proofs.lemmas.List.Elements.{filter_agree}
-use Rattle.std.proofs.lemmas.List.Sorted.{IsNonDecreasingBy-from_sort_by_key, answers_always}
-use Rattle.rm_catalog.specs.declared.record.Edit.{Edit}
-use Rattle.rm_catalog.specs.Edits.{place_of_edit}
-use Rattle.rm_catalog.proofs.Stable.{same_outcome, is_at, tie_is}
+use Rattle.std.{specs.{Prelude.{not, ◌&&◌}, Ordering.{is_lt, nat_cmp}}, proofs.Common.{rules, List, sym, ◌∙◌}}
+use Rattle.std.proofs.lemmas.List.{Elements.{filter_agree}, Sorted.{IsNonDecreasingBy-from_sort_by_key, answers_always}}
+use Rattle.rm_catalog.{specs.{Edits.{place_of_edit}, declared.record.Edit.{Edit}}, proofs.Stable.{same_outcome, is_at, tie_is}}
 use Rattle.rm_catalog.proofs.edits.by_place.Goals as goal
 
 pub returns-clause-order : goal.returns-clause-order

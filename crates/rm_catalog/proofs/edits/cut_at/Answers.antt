@@ -1,8 +1,5 @@
 use Rattle.std.proofs.Common.{◌∙◌, List, ap, sym, subst, take}
-use Rattle.rm_catalog.specs.declared.record.Record.{Record}
-use Rattle.rm_catalog.specs.Keys.{InOrder}
-use Rattle.rm_catalog.specs.Edits.{below}
-use Rattle.rm_catalog.proofs.Passing.{take_below}
+use Rattle.rm_catalog.{specs.{Keys.{InOrder}, Edits.{below}, declared.record.Record.{Record}}, proofs.Passing.{take_below}}
 use Rattle.rm_catalog.proofs.edits.cut_at.Goals as goal
 
 pub count_before-n-requires : goal.count_before-n-requires

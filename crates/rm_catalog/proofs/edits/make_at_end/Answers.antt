@@ -1,7 +1,5 @@
 use Rattle.std.proofs.Common.{◌∙◌, [], ◌∷◌, ◌++◌, ℕ, List, ap}
-use Rattle.rm_catalog.specs.declared.record.Record.{Record}
-use Rattle.rm_catalog.specs.Edits.{below}
-use Rattle.rm_catalog.proofs.Passing.{put_last, drop_last}
+use Rattle.rm_catalog.{specs.{Edits.{below}, declared.record.Record.{Record}}, proofs.Passing.{put_last, drop_last}}
 use Rattle.rm_catalog.proofs.edits.make_at_end.Goals as goal
 
 pub returns-in-Put-clause-items : goal.returns-in-Put-clause-items

@@ -1,7 +1,5 @@
-use Rattle.std.proofs.Common.{◌+◌, ◌≤◌, reverse}
-use Rattle.std.specs.Vec.{vec_len, vec_capacity}
-use Rattle.rm_catalog.specs.Passes.{IsReady, HasMade}
-use Rattle.rm_catalog.proofs.edits.make_below.Given as goal
+use Rattle.std.{specs.Vec.{vec_len, vec_capacity}, proofs.Common.{◌+◌, ◌≤◌, reverse}}
+use Rattle.rm_catalog.{specs.Passes.{IsReady, HasMade}, proofs.edits.make_below.Given as goal}
 
 abbrev pub invariant-edits : goal.invariant-edits
 invariant-edits l = record {

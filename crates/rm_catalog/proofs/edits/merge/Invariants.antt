@@ -1,9 +1,5 @@
-use Rattle.std.proofs.Common.{◌≡◌, ◌+◌, ◌≤◌, length, reverse}
-use Rattle.std.specs.Vec.{vec_len, vec_capacity}
-use Rattle.std.specs.Vec.Iter.{into_iter_items, into_iter_len}
-use Rattle.rm_catalog.specs.Edits.{after_edits}
-use Rattle.rm_catalog.proofs.Passing.{Stands}
-use Rattle.rm_catalog.proofs.edits.merge.Given as goal
+use Rattle.std.{specs.Vec.{vec_len, vec_capacity, Iter.{into_iter_items, into_iter_len}}, proofs.Common.{◌≡◌, ◌+◌, ◌≤◌, length, reverse}}
+use Rattle.rm_catalog.{specs.Edits.{after_edits}, proofs.{Passing.{Stands}, edits.merge.Given as goal}}
 
 abbrev pub invariant-loop-row : goal.invariant-loop-row
 invariant-loop-row l = record {

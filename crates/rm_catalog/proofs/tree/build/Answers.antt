@@ -1,7 +1,6 @@
 use Rattle.std.proofs.Common.{◌≡◌, ◌∙◌, ◌++◌, take, List, ap, sym, subst, option_to_list}
 use Rattle.rm_history.specs.declared.tree.Incarnation.{Incarnation}
-use Rattle.rm_catalog.specs.Trees.{node_in, nodes, as_tree, known_in, IsNext}
-use Rattle.rm_catalog.proofs.Trees.{known_is, at_index, nodes_more}
+use Rattle.rm_catalog.{specs.Trees.{node_in, nodes, as_tree, known_in, IsNext}, proofs.Trees.{known_is, at_index, nodes_more}}
 use Rattle.rm_catalog.proofs.tree.build.Goals as goal
 
 pub with_row-requires-clause-next : goal.with_row-requires-clause-next

@@ -1,8 +1,5 @@
-use Rattle.std.proofs.Common.{◌≡◌, ◌++◌, ◌+◌, ◌*◌, length, All}
-use Rattle.std.specs.List.{flat_map}
-use Rattle.rm_catalog_bytes.specs.Fits.{SetPartFits}
-use Rattle.rm_catalog_bytes.specs.Spelling.{set_part_bytes}
-use Rattle.rm_catalog_bytes.proofs.sets.parts_of.Given as goal
+use Rattle.std.{specs.List.{flat_map}, proofs.Common.{◌≡◌, ◌++◌, ◌+◌, ◌*◌, length, All}}
+use Rattle.rm_catalog_bytes.{specs.{Fits.{SetPartFits}, Spelling.{set_part_bytes}}, proofs.sets.parts_of.Given as goal}
 
 abbrev pub invariant-loop : goal.invariant-loop
 invariant-loop l = record {

@@ -1,14 +1,9 @@
-use Rattle.std.proofs.Common.{◌≡◌, ◌∙◌, ◌++◌, ◌+◌, ◌-◌, ◌/◌, ℕ, List, Vec, length, take, drop, refl, sym, ap, subst, length-append, rules, arith}
 use Rattle.std.specs.Global.{Global}
+use Rattle.std.proofs.Common.{◌≡◌, ◌∙◌, ◌++◌, ◌+◌, ◌-◌, ◌/◌, ℕ, List, Vec, length, take, drop, refl, sym, ap, subst, length-append, rules, arith}
 use Rattle.std.proofs.lemmas.List.{length-map}
-use Rattle.rm_live.specs.Passes.{Standing}
-use Rattle.rm_live.specs.Ruled.{half}
-use Rattle.rm_channel.specs.declared.jobs.WriteJob.{WriteJob}
-use Rattle.rm_channel.specs.declared.working.Share.{Share}
-use Rattle.rm_channel.specs.Jobs.{lists}
-use Rattle.rm_channel.specs.Runs.{CanRun, HasRun}
-use Rattle.rm_channel.specs.Sections.{sections}
-use Rattle.rm_channel.proofs.Halves.{run-both}
+use Rattle.rm_live.specs.{Passes.{Standing}, Ruled.{half}}
+use Rattle.rm_channel.specs.{Jobs.{lists}, Runs.{CanRun, HasRun}, Sections.{sections}, declared.jobs.WriteJob.{WriteJob}}
+use Rattle.rm_channel.{specs.declared.working.Share.{Share}, proofs.Halves.{run-both}}
 use Rattle.rm_channel.proofs.Split.{as-half, front-falls, back-falls, can-front, can-back, first-half, second-half, is-cut, lists-both, right-is, rows-even, run-share, split-halves}
 use Rattle.rm_channel.proofs.copying.+fn-run-join+arg2+fn-run-join+arg3+run.Goals as goal
 

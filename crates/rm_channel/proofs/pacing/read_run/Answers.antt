@@ -1,14 +1,8 @@
 use Rattle.std.proofs.Common.{◌≡◌, ◌+◌, ℕ, IsSome, List, ap, get_or, length, length-take, take, sym, subst, rules, arith}
-use Rattle.std.proofs.lemmas.List.{take_more, take_all}
-use Rattle.std.proofs.lemmas.List.Elements.{All-get_or}
+use Rattle.std.proofs.lemmas.List.{take_more, take_all, Elements.{All-get_or}}
 use Rattle.rm_blocks.specs.File.{File}
-use Rattle.rm_live.specs.Parts.{row_at}
-use Rattle.rm_live.specs.Passes.{Standing}
-use Rattle.rm_channel.specs.Jobs.{found}
-use Rattle.rm_channel.specs.Made.{DidMore}
-use Rattle.rm_channel.proofs.Spans.{found-append}
-use Rattle.rm_channel.proofs.Steps.{later-then}
-use Rattle.rm_channel.proofs.Turns.{more-done}
+use Rattle.rm_live.specs.{Parts.{row_at}, Passes.{Standing}}
+use Rattle.rm_channel.{specs.{Jobs.{found}, Made.{DidMore}}, proofs.{Spans.{found-append}, Steps.{later-then}, Turns.{more-done}}}
 use Rattle.rm_channel.proofs.pacing.read_run.Goals as goal
 
 pub read_block-requires-clause-there : goal.read_block-requires-clause-there

@@ -1,6 +1,5 @@
 use Rattle.std.proofs.Common.{rules, ◌+◌, []}
-use Rattle.rm_channel.specs.Sections.{sections}
-use Rattle.rm_channel.proofs.Shares.{run-err, run-section, worked-section}
+use Rattle.rm_channel.{specs.Sections.{sections}, proofs.Shares.{run-err, run-section, worked-section}}
 use Rattle.rm_channel.proofs.working.copy_section.Goals as goal
 
 pub returns-in_err-rows-clause-run : goal.returns-in_err-rows-clause-run

@@ -1,10 +1,6 @@
 use Rattle.std.proofs.Common.{◌≡◌, ◌∙◌, ◌++◌, List, length, length-append, append_assoc, sym, ap, subst, rules}
-use Rattle.rm_channel.specs.declared.jobs.WriteJob.{WriteJob}
-use Rattle.rm_channel.specs.Jobs.{wrote, writes}
-use Rattle.rm_channel.specs.Made.{Did}
-use Rattle.rm_channel.proofs.Steps.{worked-none, later-then}
-use Rattle.rm_channel.proofs.Turns.{all-done, did-run, more-length, worked-writes, worked-err}
-use Rattle.rm_channel.proofs.Writes.{wrote-append}
+use Rattle.rm_channel.{specs.{Jobs.{wrote, writes}, Made.{Did}, declared.jobs.WriteJob.{WriteJob}}, proofs.Steps.{worked-none, later-then}}
+use Rattle.rm_channel.proofs.{Turns.{all-done, did-run, more-length, worked-writes, worked-err}, Writes.{wrote-append}}
 use Rattle.rm_channel.proofs.working.make_writes.Goals as goal
 
 pub returns-in_err-answers-clause-worked : goal.returns-in_err-answers-clause-worked

@@ -1,8 +1,5 @@
 use Rattle.std.proofs.Common.{rules}
-use Rattle.rm_channel.specs.Jobs.{writes}
-use Rattle.rm_channel.proofs.Steps.{worked-none}
-use Rattle.rm_channel.proofs.Turns.{worked-err}
-use Rattle.rm_channel.proofs.working.write_list.Goals as goal
+use Rattle.rm_channel.{specs.Jobs.{writes}, proofs.{Steps.{worked-none}, Turns.{worked-err}, working.write_list.Goals as goal}}
 
 pub returns-in_err-rows-clause-worked : goal.returns-in_err-rows-clause-worked
 returns-in_err-rows-clause-worked g c =

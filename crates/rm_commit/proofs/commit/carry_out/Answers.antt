@@ -1,14 +1,9 @@
-use Rattle.std.proofs.Common.{ℕ, List, refl, subst, ap, ◌∙◌}
-use Rattle.std.specs.Option.{option_map}
+use Rattle.std.{specs.Option.{option_map}, proofs.Common.{ℕ, List, refl, subst, ap, ◌∙◌}}
 use Rattle.rm_base.specs.Store.{Both}
-use Rattle.rm_catalog.specs.declared.record.Edit.{Edit}
-use Rattle.rm_catalog.specs.Edits.{after_edits}
-use Rattle.rm_commit.specs.declared.commit.Object.{Object}
-use Rattle.rm_commit.specs.Names.{HasPuts, SameBeyondPuts, HasRemoves, SameBeyondRemoves}
-use Rattle.rm_commit.specs.Carrying.{PutsFront}
-use Rattle.rm_commit.proofs.Fronts.{front-of-all}
-use Rattle.rm_commit.proofs.Carrying.{on-err, halts-before, halts-after, carries}
-use Rattle.rm_commit.proofs.commit.carry_out.Goals as goal
+use Rattle.rm_catalog.specs.{Edits.{after_edits}, declared.record.Edit.{Edit}}
+use Rattle.rm_commit.specs.{Names.{HasPuts, SameBeyondPuts, HasRemoves, SameBeyondRemoves}, Carrying.{PutsFront}}
+use Rattle.rm_commit.{specs.declared.commit.Object.{Object}, proofs.Fronts.{front-of-all}}
+use Rattle.rm_commit.proofs.{Carrying.{on-err, halts-before, halts-after, carries}, commit.carry_out.Goals as goal}
 
 pub returns-in_err-put_all-clause-stopped : goal.returns-in_err-put_all-clause-stopped
 returns-in_err-put_all-clause-stopped g c =

@@ -1,13 +1,6 @@
-use Rattle.std.proofs.Common.{◌≡◌, ◌∙◌, List, Option, true, ap, rules, sym, subst}
-use Rattle.std.specs.Option.{option_map}
-use Rattle.std.specs.Vec.{vec_len}
-use Rattle.rm_catalog.specs.declared.record.Edit.{Edit}
-use Rattle.rm_catalog.specs.declared.record.Record.{Record}
-use Rattle.rm_catalog.specs.Edits.{after_edits}
-use Rattle.rm_catalog.specs.Rules.{IsOrderOf}
-use Rattle.rm_control.specs.Follows.{AreEqual}
-use Rattle.rm_control.proofs.Following.{counted, leveled, none_by, same_after}
-use Rattle.rm_control.proofs.control.level.Goals as goal
+use Rattle.std.{specs.{Option.{option_map}, Vec.{vec_len}}, proofs.Common.{◌≡◌, ◌∙◌, List, Option, true, ap, rules, sym, subst}}
+use Rattle.rm_catalog.specs.{Edits.{after_edits}, Rules.{IsOrderOf}, declared.record.{Edit.{Edit}, Record.{Record}}}
+use Rattle.rm_control.{specs.Follows.{AreEqual}, proofs.{Following.{counted, leveled, none_by, same_after}, control.level.Goals as goal}}
 use Rattle.rm_control.proofs.control.level.Goals.{then-not-is_empty+in_ok-apply, else-not-is_empty}
 
 pub returns-clause-equal : goal.returns-clause-equal

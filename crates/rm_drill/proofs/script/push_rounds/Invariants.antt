@@ -1,7 +1,5 @@
-use Rattle.std.proofs.Common.{◌≡◌, ◌++◌}
-use Rattle.std.specs.String.{string_bytes}
-use Rattle.rm_drill.specs.Script.{number_after_rounds, rounds_text}
-use Rattle.rm_drill.proofs.script.push_rounds.Given as goal
+use Rattle.std.{specs.String.{string_bytes}, proofs.Common.{◌≡◌, ◌++◌}}
+use Rattle.rm_drill.{specs.Script.{number_after_rounds, rounds_text}, proofs.script.push_rounds.Given as goal}
 
 abbrev pub invariant-loop-index : goal.invariant-loop-index
 invariant-loop-index l = record {

@@ -1,14 +1,10 @@
 use Rattle.std.proofs.Common.{◌≤◌, ◌∙◌, List, All, length, ap, sym, subst}
 use Rattle.rm_blocks.specs.File.{File}
-use Rattle.rm_catalog.specs.declared.record.Record.{Record}
-use Rattle.rm_catalog.specs.Rules.{IsCatalog}
+use Rattle.rm_catalog.specs.{Rules.{IsCatalog}, declared.record.Record.{Record}}
 use Rattle.rm_catalog_typed.specs.TypedCatalog.{records_of}
 use Rattle.rm_evidence.specs.Database.{world_of}
-use Rattle.rm_piece.specs.declared.piece.Piece.{Piece}
-use Rattle.rm_piece.specs.Valid.{IsPiece}
-use Rattle.rm_dup.specs.Copies.{copies_of}
-use Rattle.rm_dup.specs.Entries.{catalog_of, moment_in}
-use Rattle.rm_dup.proofs.Whole.{few-rows, pieces-valid, records-valid}
+use Rattle.rm_piece.specs.{Valid.{IsPiece}, declared.piece.Piece.{Piece}}
+use Rattle.rm_dup.{specs.{Copies.{copies_of}, Entries.{catalog_of, moment_in}}, proofs.Whole.{few-rows, pieces-valid, records-valid}}
 use Rattle.rm_dup.proofs.duplicating.duplicate_from.Goals as goal
 
 pub copies-requires-clause-rows : goal.copies-requires-clause-rows

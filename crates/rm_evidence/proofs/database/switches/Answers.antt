@@ -1,7 +1,5 @@
 use Rattle.std.proofs.Common.{◌∙◌, ◌+◌, ◌++◌, List, Option, ap, sym, option_to_list, take}
-use Rattle.rm_catalog.specs.declared.record.Record.{Record}
-use Rattle.rm_catalog.specs.Switches.{switches}
-use Rattle.rm_catalog.proofs.Switching.{switches_more}
+use Rattle.rm_catalog.{specs.{Switches.{switches}, declared.record.Record.{Record}}, proofs.Switching.{switches_more}}
 use Rattle.rm_history.specs.declared.world.Switch.{Switch}
 use Rattle.rm_evidence.proofs.database.switches.Goals as goal
 

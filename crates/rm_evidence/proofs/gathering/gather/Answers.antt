@@ -1,11 +1,6 @@
 use Rattle.std.proofs.Common.{◌≡◌, ◌∙◌, arith, map, refl, sym}
-use Rattle.rm_evidence.specs.Database.{database_in, dbid_in}
-use Rattle.rm_evidence.specs.Place.{placed_evidence}
-use Rattle.rm_evidence.specs.Taking.{AreObjects}
-use Rattle.rm_evidence.proofs.Fitting.{gathered-fits}
-use Rattle.rm_evidence.proofs.Ordered.{told-all, told-more}
-use Rattle.rm_evidence.proofs.Runs.{adds-start}
-use Rattle.rm_evidence.proofs.Seen.{seen-all, seen-so}
+use Rattle.rm_evidence.specs.{Database.{database_in, dbid_in}, Place.{placed_evidence}, Taking.{AreObjects}}
+use Rattle.rm_evidence.proofs.{Fitting.{gathered-fits}, Ordered.{told-all, told-more}, Runs.{adds-start}, Seen.{seen-all, seen-so}}
 use Rattle.rm_evidence.proofs.gathering.gather.Goals as goal
 
 pub loop-object-init : goal.loop-object-init

@@ -1,8 +1,5 @@
 use Rattle.std.proofs.Common.{◌≡◌, ◌≤◌, map, take}
-use Rattle.rm_evidence.specs.Database.{database_in}
-use Rattle.rm_evidence.specs.Seen.{IsSeen}
-use Rattle.rm_evidence.specs.Taking.{Adds}
-use Rattle.rm_evidence.proofs.Ordered.{rows_of}
+use Rattle.rm_evidence.{specs.{Database.{database_in}, Seen.{IsSeen}, Taking.{Adds}}, proofs.Ordered.{rows_of}}
 use Rattle.rm_evidence.proofs.gathering.gather.Given as goal
 
 abbrev pub invariant-loop-object : goal.invariant-loop-object

@@ -1,16 +1,9 @@
+use Rattle.std.specs.Vec.Iter.{into_iter_items}
 use Rattle.std.proofs.Common.{◌≡◌, ◌≤◌, ◌∙◌, ◌∷◌, ℕ, List, ap, arith, drop, get_or, length, map, refl, rules, subst, sym}
 use Rattle.std.proofs.lemmas.List.{get_or_default}
-use Rattle.std.specs.Vec.Iter.{into_iter_items}
-use Rattle.rm_evidence.specs.Database.{database_in, dbid_in}
-use Rattle.rm_evidence.specs.Place.{placed_evidence}
-use Rattle.rm_evidence.specs.Taking.{AreObjects}
-use Rattle.rm_evidence.specs.Telling.{AreTold}
-use Rattle.rm_evidence.specs.declared.telling.Told.{Told}
-use Rattle.rm_evidence.proofs.Fitting.{gathered-fits}
-use Rattle.rm_evidence.proofs.Ordered.{told-all, told-more}
-use Rattle.rm_evidence.proofs.Runs.{adds-start}
-use Rattle.rm_evidence.proofs.Seen.{seen-all, seen-so}
-use Rattle.rm_evidence.proofs.Tells.{adds-seen, none-left, told-inside, told-next}
+use Rattle.rm_evidence.specs.{Database.{database_in, dbid_in}, Place.{placed_evidence}, Taking.{AreObjects}, Telling.{AreTold}}
+use Rattle.rm_evidence.{specs.declared.telling.Told.{Told}, proofs.{Fitting.{gathered-fits}, Ordered.{told-all, told-more}}}
+use Rattle.rm_evidence.proofs.{Runs.{adds-start}, Seen.{seen-all, seen-so}, Tells.{adds-seen, none-left, told-inside, told-next}}
 use Rattle.rm_evidence.proofs.gathering.gather_by.Goals as goal
 
 pub loop-told-init : goal.loop-told-init

@@ -1,10 +1,5 @@
-use Rattle.std.proofs.Common.{◌≡◌, ◌≤◌, drop, length, map, take}
-use Rattle.std.specs.Vec.Iter.{into_iter_items, into_iter_len}
-use Rattle.rm_evidence.specs.Database.{database_in}
-use Rattle.rm_evidence.specs.Seen.{IsSeen}
-use Rattle.rm_evidence.specs.Taking.{Adds}
-use Rattle.rm_evidence.specs.Telling.{AreTold}
-use Rattle.rm_evidence.proofs.Ordered.{rows_of}
+use Rattle.std.{specs.Vec.Iter.{into_iter_items, into_iter_len}, proofs.Common.{◌≡◌, ◌≤◌, drop, length, map, take}}
+use Rattle.rm_evidence.{specs.{Database.{database_in}, Seen.{IsSeen}, Taking.{Adds}, Telling.{AreTold}}, proofs.Ordered.{rows_of}}
 use Rattle.rm_evidence.proofs.gathering.gather_by.Given as goal
 
 abbrev pub invariant-loop-told : goal.invariant-loop-told

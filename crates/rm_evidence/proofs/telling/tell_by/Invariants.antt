@@ -1,8 +1,5 @@
-use Rattle.std.proofs.Common.{◌≡◌, ◌≤◌}
-use Rattle.std.specs.Slice.Iter.{chunks_rest}
-use Rattle.rm_evidence.specs.Database.{database_in}
-use Rattle.rm_evidence.proofs.Tells.{IsToldBefore}
-use Rattle.rm_evidence.proofs.telling.tell_by.Given as goal
+use Rattle.std.{specs.Slice.Iter.{chunks_rest}, proofs.Common.{◌≡◌, ◌≤◌}}
+use Rattle.rm_evidence.{specs.Database.{database_in}, proofs.{Tells.{IsToldBefore}, telling.tell_by.Given as goal}}
 
 abbrev pub invariant-loop-part : goal.invariant-loop-part
 invariant-loop-part g l = record {

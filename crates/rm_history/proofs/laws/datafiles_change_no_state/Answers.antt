@@ -1,5 +1,4 @@
-use Rattle.rm_history.proofs.Histories.{IsHistory-with_file}
-use Rattle.rm_history.proofs.Worlds.{state-kept, BaseAgrees-with_file, Level1Agrees-with_file}
+use Rattle.rm_history.proofs.{Histories.{IsHistory-with_file}, Worlds.{state-kept, BaseAgrees-with_file, Level1Agrees-with_file}}
 use Rattle.rm_history.proofs.laws.datafiles_change_no_state.Goals as goal
 
 pub returns-clause-history : goal.returns-clause-history

@@ -1,8 +1,6 @@
 use Rattle.std.proofs.Common.{◌≡◌, ◌<◌, ◌∙◌, Some, ap, sym, subst, arith}
-use Rattle.rm_history.specs.declared.tree.Incarnation.{Incarnation}
-use Rattle.rm_history.specs.Tree.{parent_of, segment_end}
-use Rattle.rm_history.proofs.Owners.{parent-there, reset-there}
-use Rattle.rm_history.proofs.Paths.{segment_end-here, segment_end-above, segment_end-none}
+use Rattle.rm_history.specs.{Tree.{parent_of, segment_end}, declared.tree.Incarnation.{Incarnation}}
+use Rattle.rm_history.proofs.{Owners.{parent-there, reset-there}, Paths.{segment_end-here, segment_end-above, segment_end-none}}
 use Rattle.rm_history.proofs.tree.end_of_segment.Goals as goal
 
 abbrev any : Incarnation

@@ -1,9 +1,6 @@
-use Rattle.std.proofs.Common.{◌≡◌, ◌+◌, arith, w8, take, ap, ◌∙◌, sym, count_ones, slice_index}
-use Rattle.std.specs.Simd.Lanes.{chunk}
-use Rattle.std.proofs.lemmas.Simd.{chunk-fits}
-use Rattle.std.proofs.lemmas.List.Sums.{sum_by_more}
-use Rattle.rm_lanes.specs.Bits.{set_count}
-use Rattle.rm_lanes.proofs.Counting.{counts_fit, sums_fit, set_count-lanes, set_count-fits, lanes_sum}
+use Rattle.std.{specs.Simd.Lanes.{chunk}, proofs.Common.{◌≡◌, ◌+◌, arith, w8, take, ap, ◌∙◌, sym, count_ones, slice_index}}
+use Rattle.std.proofs.lemmas.{Simd.{chunk-fits}, List.Sums.{sum_by_more}}
+use Rattle.rm_lanes.{specs.Bits.{set_count}, proofs.Counting.{counts_fit, sums_fit, set_count-lanes, set_count-fits, lanes_sum}}
 use Rattle.rm_lanes.proofs.bits.count_ones.Goals as goal
 
 pub overflow_cast-ones : goal.overflow_cast-ones

@@ -1,7 +1,6 @@
 use Rattle.std.proofs.Common.{◌≡◌, codes, map, take}
 use Rattle.rm_lang_grammar.specs.Spelling.{spelled, many_spelled}
-use Rattle.rm_lang_reading.specs.Creating.{write_part}
-use Rattle.rm_lang_reading.specs.Values.{write_values}
+use Rattle.rm_lang_reading.specs.{Creating.{write_part}, Values.{write_values}}
 use Rattle.rm_lang.proofs.backup.writes.Given as goal
 
 abbrev pub invariant-loop-form : goal.invariant-loop-form

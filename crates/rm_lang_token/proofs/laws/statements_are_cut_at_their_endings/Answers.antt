@@ -1,8 +1,5 @@
 use Rattle.std.proofs.Common.{ℕ, List, sym, subst}
-use Rattle.rm_lang_token.specs.declared.token.Token.{Token}
-use Rattle.rm_lang_token.specs.Cuts.{Cuts}
-use Rattle.rm_lang_token.specs.Tokens.{tokens}
-use Rattle.rm_lang_token.proofs.Cutting.{cut-Cuts, cuts-only}
+use Rattle.rm_lang_token.{specs.{Cuts.{Cuts}, Tokens.{tokens}, declared.token.Token.{Token}}, proofs.Cutting.{cut-Cuts, cuts-only}}
 use Rattle.rm_lang_token.proofs.laws.statements_are_cut_at_their_endings.Goals as goal
 
 pub returns : goal.returns

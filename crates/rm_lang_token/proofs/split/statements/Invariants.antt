@@ -1,7 +1,5 @@
 use Rattle.std.proofs.Common.{◌≡◌, ◌≤◌, ◌<◌, ◌+◌, ◌^◌, ◌++◌, drop}
-use Rattle.rm_lang_token.specs.Tokens.{feeds, tokens_from}
-use Rattle.rm_lang_token.specs.Statements.{cut, statements}
-use Rattle.rm_lang_token.specs.Splitter.{begun_of}
+use Rattle.rm_lang_token.specs.{Tokens.{feeds, tokens_from}, Statements.{cut, statements}, Splitter.{begun_of}}
 use Rattle.rm_lang_token.proofs.split.statements.Given as goal
 
 abbrev pub invariant-loop-index : goal.invariant-loop-index

@@ -1,15 +1,8 @@
-use Rattle.std.proofs.Common.{ap, sym, ◌≡◌, ◌∙◌, ◌∷◌, inl, inr, map, []}
-use Rattle.std.specs.String.{string_bytes}
-use Rattle.clap.specs.Kinds.{HasKind, Kinds}
-use Rattle.clap.specs.Values.{kind_of}
-use Rattle.clap.specs.Words.{fault_of, found_of, first_of, is_simple, is_simple_and_free, matches_of}
-use Rattle.clap.specs.declared.error.Error.{Error}
-use Rattle.clap.specs.declared.error.kind.ErrorKind.TheVariants.{OutOfMemory}
-use Rattle.clap.proofs.WalkLemmas.{first_value-rows}
-use Rattle.rm_lang_words.specs.Clap.{faults, found}
-use Rattle.rm_lang_words.specs.Form.{form_of}
-use Rattle.rm_lang_words.proofs.Clap.{free, simple}
-use Rattle.rm_lang_words.proofs.clap_command.find.Goals as goal
+use Rattle.std.{specs.String.{string_bytes}, proofs.Common.{ap, sym, ◌≡◌, ◌∙◌, ◌∷◌, inl, inr, map, []}}
+use Rattle.clap.specs.{Kinds.{HasKind, Kinds}, Values.{kind_of}}
+use Rattle.clap.specs.{Words.{fault_of, found_of, first_of, is_simple, is_simple_and_free, matches_of}, declared.error.Error.{Error}}
+use Rattle.clap.{specs.declared.error.kind.ErrorKind.TheVariants.{OutOfMemory}, proofs.WalkLemmas.{first_value-rows}}
+use Rattle.rm_lang_words.{specs.{Clap.{faults, found}, Form.{form_of}}, proofs.{Clap.{free, simple}, clap_command.find.Goals as goal}}
 
 pub returns-in-Ok-clause-taken : goal.returns-in-Ok-clause-taken
 unfolding faults

@@ -1,8 +1,6 @@
+use Rattle.std.specs.{Prelude.{unwrap_or}, String.{string_bytes}}
 use Rattle.std.proofs.Common.{ℕ, ◌≤◌, ◌∙◌, IfSome, Option, Some, false, true, map, refl, sym, subst, ap, arith, codes}
-use Rattle.std.specs.Prelude.{unwrap_or}
-use Rattle.std.specs.String.{string_bytes}
-use Rattle.rm_lang_words.specs.Duplicate.{duplicate_by, duplicate_form, duplicate_said}
-use Rattle.rm_lang_words.specs.Reading.{AreOf, AreRead, duplicate_of}
+use Rattle.rm_lang_words.specs.{Duplicate.{duplicate_by, duplicate_form, duplicate_said}, Reading.{AreOf, AreRead, duplicate_of}}
 use Rattle.rm_lang_words.proofs.Told.{fails, number_needed, number_told, number_within, text_told, told, untold}
 use Rattle.rm_lang_words.proofs.duplicate.read_duplicate.Goals as goal
 

@@ -1,9 +1,6 @@
-use Rattle.std.proofs.Common.{rules, tests, ◌∙◌}
-use Rattle.std.proofs.lemmas.Iterator.{YieldsList-from_slice}
-use Rattle.std.proofs.lemmas.Iterator.Search.{any_from_yields_List}
+use Rattle.std.proofs.{Common.{rules, tests, ◌∙◌}, lemmas.Iterator.{YieldsList-from_slice, Search.{any_from_yields_List}}}
 use Rattle.clap.proofs.WalkLemmas.{list_any-map}
-use Rattle.rm_lang_words.specs.declared.form.Entry.{Entry as EntryInCode}
-use Rattle.rm_lang_words.specs.Form.{entry_of, is_flag_named}
+use Rattle.rm_lang_words.specs.{Form.{entry_of, is_flag_named}, declared.form.Entry.{Entry as EntryInCode}}
 use Rattle.rm_lang_words.proofs.options.is_flag.Goals as goal
 
 pub returns : goal.returns

@@ -1,9 +1,6 @@
-use Rattle.std.proofs.Common.{◌≡◌, ◌∙◌, ◌∷◌, [], List, drop, drop-cons, add-one, ◌+◌, ℕ, sym, ap, map, option_map}
 use Rattle.std.specs.String.{string_bytes}
-use Rattle.rm_lang_words.specs.Form.{form_of, is_flag}
-use Rattle.rm_lang_words.specs.Options.{given_in}
-use Rattle.rm_lang_words.specs.Reading.{with_left, words_behind}
-use Rattle.rm_lang_words.proofs.Told.{fails}
+use Rattle.std.proofs.Common.{◌≡◌, ◌∙◌, ◌∷◌, [], List, drop, drop-cons, add-one, ◌+◌, ℕ, sym, ap, map, option_map}
+use Rattle.rm_lang_words.{specs.{Form.{form_of, is_flag}, Options.{given_in}, Reading.{with_left, words_behind}}, proofs.Told.{fails}}
 use Rattle.rm_lang_words.proofs.options.one_words.Goals as goal
 
 pub returns-in_err-waiting : goal.returns-in_err-waiting

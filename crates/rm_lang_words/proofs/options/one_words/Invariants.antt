@@ -1,8 +1,5 @@
-use Rattle.std.proofs.Common.{◌≡◌, [], map, drop, option_map}
-use Rattle.std.specs.String.{string_bytes}
-use Rattle.rm_lang_words.specs.Options.{given_in}
-use Rattle.rm_lang_words.specs.Form.{form_of, is_flag}
-use Rattle.rm_lang_words.specs.Reading.{with_left, words_behind}
+use Rattle.std.{specs.String.{string_bytes}, proofs.Common.{◌≡◌, [], map, drop, option_map}}
+use Rattle.rm_lang_words.specs.{Options.{given_in}, Form.{form_of, is_flag}, Reading.{with_left, words_behind}}
 use Rattle.rm_lang_words.proofs.options.one_words.Given as goal
 
 abbrev pub invariant-loop-word : goal.invariant-loop-word

@@ -1,9 +1,6 @@
-use Rattle.std.proofs.Common.{◌∙◌, ◌∷◌, map, option_map, sym, ap}
-use Rattle.std.specs.String.{string_bytes}
+use Rattle.std.{specs.String.{string_bytes}, proofs.Common.{◌∙◌, ◌∷◌, map, option_map, sym, ap}}
 use Rattle.std.proofs.lemmas.Result.{IfErr-weaker, IfOk-weaker}
-use Rattle.rm_lang_words.specs.Form.{form_of, is_flag}
-use Rattle.rm_lang_words.specs.Reading.{with_left}
-use Rattle.rm_lang_words.proofs.Joined.{as_text, read_value}
+use Rattle.rm_lang_words.{specs.{Form.{form_of, is_flag}, Reading.{with_left}}, proofs.Joined.{as_text, read_value}}
 use Rattle.rm_lang_words.proofs.options.read_word.Goals as goal
 
 pub returns-in_default-clause-read : goal.returns-in_default-clause-read

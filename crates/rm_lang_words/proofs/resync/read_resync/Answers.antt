@@ -1,8 +1,5 @@
-use Rattle.std.proofs.Common.{◌∙◌, Some, map, sym, ap}
-use Rattle.std.specs.String.{string_bytes}
-use Rattle.rm_lang_words.specs.Resync.{resync_by, resync_form, resync_said}
-use Rattle.rm_lang_words.specs.Reading.{AreOf, resync_of}
-use Rattle.rm_lang_words.proofs.Told.{fails, untold}
+use Rattle.std.{specs.String.{string_bytes}, proofs.Common.{◌∙◌, Some, map, sym, ap}}
+use Rattle.rm_lang_words.{specs.{Resync.{resync_by, resync_form, resync_said}, Reading.{AreOf, resync_of}}, proofs.Told.{fails, untold}}
 use Rattle.rm_lang_words.proofs.resync.read_resync.Goals as goal
 
 pub returns-in_err-options : goal.returns-in_err-options

@@ -1,5 +1,4 @@
-use Rattle.std.proofs.Common.{◌≡◌, drop}
-use Rattle.std.specs.Str.{all_ascii_digits}
+use Rattle.std.{specs.Str.{all_ascii_digits}, proofs.Common.{◌≡◌, drop}}
 use Rattle.rm_lang_words.proofs.values.are_digits.Given as goal
 
 abbrev pub invariant-loop-byte : goal.invariant-loop-byte

@@ -1,7 +1,5 @@
-use Rattle.std.proofs.Common.{◌∙◌, Some, ap, sym}
-use Rattle.std.specs.Option.{option_map}
-use Rattle.rm_machine.specs.BackupRefusal.{block_of}
-use Rattle.rm_machine.proofs.Refused.{damage-found, damage-more, write-fits}
+use Rattle.std.{specs.Option.{option_map}, proofs.Common.{◌∙◌, Some, ap, sym}}
+use Rattle.rm_machine.{specs.BackupRefusal.{block_of}, proofs.Refused.{damage-found, damage-more, write-fits}}
 use Rattle.rm_machine.proofs.during.damaged_write.Goals as goal
 
 pub block_of-requires : goal.block_of-requires

@@ -1,12 +1,8 @@
 use Rattle.std.proofs.Common.{◌≡◌, ◌<◌, ◌+◌, ◌∙◌, ◌&&◌, List, Option, None, suc, false, subst, sym, ap, arith, is_none, length, get_or, drop}
 use Rattle.rm_blocks.specs.File.{File}
-use Rattle.rm_history.specs.declared.world.Datafile.{Datafile}
-use Rattle.rm_history.specs.World.{exists}
-use Rattle.rm_machine.specs.Mount.{first_lost}
-use Rattle.rm_machine.specs.State.{ledger, world}
-use Rattle.rm_machine.proofs.Losses.{held-by, lost-next}
-use Rattle.rm_machine.proofs.facts.first_lost.Goals as goal
-use Rattle.rm_machine.proofs.facts.first_lost.Goals.{else-exists-via-then-exists+else-is_none, else-exists-via-else-exists}
+use Rattle.rm_history.specs.{World.{exists}, declared.world.Datafile.{Datafile}}
+use Rattle.rm_machine.{specs.{Mount.{first_lost}, State.{ledger, world}}, proofs.Losses.{held-by, lost-next}}
+use Rattle.rm_machine.proofs.facts.first_lost.{Goals as goal, Goals.{else-exists-via-then-exists+else-is_none, else-exists-via-else-exists}}
 
 abbrev any : Datafile
 any = record { inc = 0; creation = 0; blocks = 0 }

@@ -1,8 +1,5 @@
-use Rattle.std.proofs.Common.{◌≡◌, ◌+◌, ◌++◌, drop, map}
-use Rattle.std.specs.List.{filter_map}
-use Rattle.rm_machine.specs.Damage.{undamaged}
-use Rattle.rm_machine.specs.State.{counted}
-use Rattle.rm_machine.proofs.hand.files_in_place.Given as goal
+use Rattle.std.{specs.List.{filter_map}, proofs.Common.{◌≡◌, ◌+◌, ◌++◌, drop, map}}
+use Rattle.rm_machine.{specs.{Damage.{undamaged}, State.{counted}}, proofs.hand.files_in_place.Given as goal}
 
 abbrev pub invariant-loop-index : goal.invariant-loop-index
 invariant-loop-index l =

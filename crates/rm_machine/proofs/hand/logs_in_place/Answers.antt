@@ -1,8 +1,6 @@
 use Rattle.std.proofs.Common.{◌≡◌, ◌+◌, ◌∙◌, ◌++◌, List, ap, sym, arith}
 use Rattle.rm_redo.specs.declared.log_file.LogFile.{LogFile}
-use Rattle.rm_machine.specs.Recovery.{online_logs}
-use Rattle.rm_machine.specs.declared.state.State.{State}
-use Rattle.rm_machine.proofs.InPlace.{online-more, online_of}
+use Rattle.rm_machine.{specs.{Recovery.{online_logs}, declared.state.State.{State}}, proofs.InPlace.{online-more, online_of}}
 use Rattle.rm_machine.proofs.hand.logs_in_place.Goals as goal
 
 pub loop-index-preserved : goal.loop-index-preserved

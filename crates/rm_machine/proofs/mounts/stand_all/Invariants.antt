@@ -1,5 +1,4 @@
-use Rattle.std.proofs.Common.{◌≡◌, ◌++◌, map, take, drop}
-use Rattle.std.specs.Option.{option_map}
+use Rattle.std.{specs.Option.{option_map}, proofs.Common.{◌≡◌, ◌++◌, map, take, drop}}
 use Rattle.rm_blocks.specs.File.{standing}
 use Rattle.rm_machine.proofs.mounts.stand_all.Given as goal
 

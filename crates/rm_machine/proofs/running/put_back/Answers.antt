@@ -1,5 +1,4 @@
-use Rattle.std.proofs.Common.{sym, subst}
-use Rattle.std.proofs.lemmas.Result.{on_ok_weaker}
+use Rattle.std.proofs.{Common.{sym, subst}, lemmas.Result.{on_ok_weaker}}
 use Rattle.rm_history.specs.Tree.{IsThere}
 use Rattle.rm_live.specs.Parts.{parts_of}
 use Rattle.rm_catalog_typed.specs.TypedCatalog.{TypedCatalog}

@@ -1,6 +1,4 @@
-use Rattle.std.proofs.Common.{◌≡◌, ◌++◌}
-use Rattle.std.specs.List.{filter_map}
-use Rattle.std.specs.Vec.Iter.{into_iter_items}
+use Rattle.std.{specs.{List.{filter_map}, Vec.Iter.{into_iter_items}}, proofs.Common.{◌≡◌, ◌++◌}}
 use Rattle.rm_machine.proofs.running.standing_in.Given as goal
 
 abbrev pub invariant-loop-slot : goal.invariant-loop-slot

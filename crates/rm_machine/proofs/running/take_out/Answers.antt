@@ -1,8 +1,6 @@
 use Rattle.std.proofs.Common.{◌≡◌, rules, sym, subst}
 use Rattle.rm_live.specs.Parts.{IsNumbered, IsSound}
-use Rattle.rm_machine.specs.Events.{standing_in}
-use Rattle.rm_machine.specs.State.{current_of, now_of}
-use Rattle.rm_machine.proofs.Opening.{opening-numbered, opening-sound}
+use Rattle.rm_machine.{specs.{Events.{standing_in}, State.{current_of, now_of}}, proofs.Opening.{opening-numbered, opening-sound}}
 use Rattle.rm_machine.proofs.running.take_out.Goals as goal
 
 pub returns-clause-numbered : goal.returns-clause-numbered

@@ -1,7 +1,6 @@
 use Rattle.std.proofs.Common.{refl, ap, ◌∙◌}
 use Rattle.rm_catalog.specs.declared.record.BaseEntry.{BaseEntry}
-use Rattle.rm_moments.specs.Meant.{moment_meant}
-use Rattle.rm_moments.proofs.Meant.{meant-is, meant-none}
+use Rattle.rm_moments.{specs.Meant.{moment_meant}, proofs.Meant.{meant-is, meant-none}}
 use Rattle.rm_machine.proofs.until.moment_in.Goals as goal
 
 pub returns-in-Some : goal.returns-in-Some

@@ -1,7 +1,4 @@
-use Rattle.rm_machine_laws.proofs.Carried.{carried-on}
-use Rattle.rm_machine_laws.proofs.Leading.{stays}
-use Rattle.rm_machine_laws.proofs.Every.{every-leads, every-loose, every-stays}
-use Rattle.rm_machine_laws.proofs.Halting.{halts}
+use Rattle.rm_machine_laws.proofs.{Carried.{carried-on}, Leading.{stays}, Every.{every-leads, every-loose, every-stays}, Halting.{halts}}
 use Rattle.rm_machine_laws.proofs.frame.each_statement_is_carried_on.Goals as goal
 
 pub returns-clause-carries : goal.returns-clause-carries

@@ -1,7 +1,5 @@
-use Rattle.rm_machine_laws.proofs.Leading.{leads, stays}
-use Rattle.rm_machine_laws.proofs.BackingUp.{backup-on, backup-stays}
+use Rattle.rm_machine_laws.proofs.{Leading.{leads, stays}, BackingUp.{backup-on, backup-stays}, laws.a_backup_leads_on.Goals as goal}
 use Rattle.rm_lang_statement.specs.declared.command.Command.TheVariants.{Backup}
-use Rattle.rm_machine_laws.proofs.laws.a_backup_leads_on.Goals as goal
 
 pub returns-clause-leads : goal.returns-clause-leads
 returns-clause-leads c form = leads (Backup form) (backup-on form)

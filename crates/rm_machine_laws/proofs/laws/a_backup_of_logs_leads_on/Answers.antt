@@ -1,7 +1,6 @@
-use Rattle.rm_machine_laws.proofs.Leading.{leads, stays}
-use Rattle.rm_machine_laws.proofs.BackingUpLogs.{back_logs-on, back_logs-stays}
-use Rattle.rm_lang_statement.specs.declared.command.Command.TheVariants.{BackupLogs}
+use Rattle.rm_machine_laws.proofs.{Leading.{leads, stays}, BackingUpLogs.{back_logs-on, back_logs-stays}}
 use Rattle.rm_machine_laws.proofs.laws.a_backup_of_logs_leads_on.Goals as goal
+use Rattle.rm_lang_statement.specs.declared.command.Command.TheVariants.{BackupLogs}
 
 pub returns-clause-leads : goal.returns-clause-leads
 returns-clause-leads c = leads BackupLogs back_logs-on

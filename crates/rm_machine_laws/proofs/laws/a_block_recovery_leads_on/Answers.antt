@@ -1,7 +1,6 @@
-use Rattle.rm_machine_laws.proofs.Leading.{leads, stays}
-use Rattle.rm_machine_laws.proofs.Repairing.{repair-on, repair-stays}
-use Rattle.rm_lang_statement.specs.declared.command.Command.TheVariants.{BlockRecover}
+use Rattle.rm_machine_laws.proofs.{Leading.{leads, stays}, Repairing.{repair-on, repair-stays}}
 use Rattle.rm_machine_laws.proofs.laws.a_block_recovery_leads_on.Goals as goal
+use Rattle.rm_lang_statement.specs.declared.command.Command.TheVariants.{BlockRecover}
 
 pub returns-clause-leads : goal.returns-clause-leads
 returns-clause-leads c form = leads (BlockRecover form) (repair-on form)

@@ -1,7 +1,5 @@
-use Rattle.rm_machine_laws.proofs.Cataloguing.{catalog-leads, catalog-stays}
-use Rattle.rm_machine_laws.proofs.Leading.{stays}
+use Rattle.rm_machine_laws.proofs.{Cataloguing.{catalog-leads, catalog-stays}, Leading.{stays}, laws.a_catalogue_leads_on.Goals as goal}
 use Rattle.rm_lang_statement.specs.declared.command.Command.TheVariants.{CatalogName}
-use Rattle.rm_machine_laws.proofs.laws.a_catalogue_leads_on.Goals as goal
 
 pub returns-clause-leads : goal.returns-clause-leads
 returns-clause-leads c = catalog-leads

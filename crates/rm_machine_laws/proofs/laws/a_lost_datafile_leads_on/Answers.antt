@@ -1,7 +1,5 @@
-use Rattle.rm_machine_laws.proofs.Leading.{leads, stays}
-use Rattle.rm_machine_laws.proofs.Losing.{lose-on, lose-stays}
+use Rattle.rm_machine_laws.proofs.{Leading.{leads, stays}, Losing.{lose-on, lose-stays}, laws.a_lost_datafile_leads_on.Goals as goal}
 use Rattle.rm_lang_statement.specs.declared.command.Command.TheVariants.{LoseDatafile}
-use Rattle.rm_machine_laws.proofs.laws.a_lost_datafile_leads_on.Goals as goal
 
 pub returns-clause-leads : goal.returns-clause-leads
 returns-clause-leads c file = leads (LoseDatafile file) (lose-on file)

@@ -1,7 +1,7 @@
 use Rattle.rm_machine_laws.proofs.Leading.{leads, stays}
 use Rattle.rm_machine_laws.proofs.Mishaps.{cut-on, cut-stays, damage-on, damage-stays, remove-on, remove-stays, rename-on, rename-stays}
-use Rattle.rm_lang_statement.specs.declared.command.Command.TheVariants.{Cut, Damage, Remove, Rename}
 use Rattle.rm_machine_laws.proofs.laws.a_mishap_of_objects_leads_on.Goals as goal
+use Rattle.rm_lang_statement.specs.declared.command.Command.TheVariants.{Cut, Damage, Remove, Rename}
 
 pub returns-clause-removes : goal.returns-clause-removes
 returns-clause-removes c name = leads (Remove name) (remove-on name)

@@ -1,7 +1,5 @@
-use Rattle.rm_machine_laws.proofs.Leading.{leads, stays}
-use Rattle.rm_machine_laws.proofs.Mounting.{mount-on, mount-stays}
+use Rattle.rm_machine_laws.proofs.{Leading.{leads, stays}, Mounting.{mount-on, mount-stays}, laws.a_mount_leads_on.Goals as goal}
 use Rattle.rm_lang_statement.specs.declared.command.Command.TheVariants.{Mount}
-use Rattle.rm_machine_laws.proofs.laws.a_mount_leads_on.Goals as goal
 
 pub returns-clause-leads : goal.returns-clause-leads
 returns-clause-leads c = leads Mount mount-on

@@ -1,7 +1,6 @@
-use Rattle.rm_machine_laws.proofs.Leading.{leads, stays}
-use Rattle.rm_machine_laws.proofs.AddingDatafile.{create-on, create-stays}
-use Rattle.rm_lang_statement.specs.declared.command.Command.TheVariants.{CreateDatafile}
+use Rattle.rm_machine_laws.proofs.{Leading.{leads, stays}, AddingDatafile.{create-on, create-stays}}
 use Rattle.rm_machine_laws.proofs.laws.a_new_datafile_leads_on.Goals as goal
+use Rattle.rm_lang_statement.specs.declared.command.Command.TheVariants.{CreateDatafile}
 
 pub returns-clause-leads : goal.returns-clause-leads
 returns-clause-leads c blocks = leads (CreateDatafile blocks) (create-on blocks)

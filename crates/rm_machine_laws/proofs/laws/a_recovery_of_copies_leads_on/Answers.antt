@@ -1,7 +1,6 @@
-use Rattle.rm_machine_laws.proofs.Leading.{leads, stays}
-use Rattle.rm_machine_laws.proofs.Renewals.{renew-on, renew-stays}
-use Rattle.rm_lang_statement.specs.declared.command.Command.TheVariants.{RecoverCopy}
+use Rattle.rm_machine_laws.proofs.{Leading.{leads, stays}, Renewals.{renew-on, renew-stays}}
 use Rattle.rm_machine_laws.proofs.laws.a_recovery_of_copies_leads_on.Goals as goal
+use Rattle.rm_lang_statement.specs.declared.command.Command.TheVariants.{RecoverCopy}
 
 pub returns-clause-leads : goal.returns-clause-leads
 returns-clause-leads c tag until = leads (RecoverCopy tag until) (renew-on tag until)

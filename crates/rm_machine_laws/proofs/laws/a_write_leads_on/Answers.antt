@@ -1,7 +1,5 @@
-use Rattle.rm_machine_laws.proofs.Leading.{leads, stays}
-use Rattle.rm_machine_laws.proofs.Writing.{write-on, write-stays}
+use Rattle.rm_machine_laws.proofs.{Leading.{leads, stays}, Writing.{write-on, write-stays}, laws.a_write_leads_on.Goals as goal}
 use Rattle.rm_lang_statement.specs.declared.command.Command.TheVariants.{Write}
-use Rattle.rm_machine_laws.proofs.laws.a_write_leads_on.Goals as goal
 
 pub returns-clause-leads : goal.returns-clause-leads
 returns-clause-leads c w = leads (Write w) (write-on w)

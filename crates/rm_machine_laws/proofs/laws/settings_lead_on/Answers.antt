@@ -1,7 +1,6 @@
-use Rattle.rm_machine_laws.proofs.Leading.{leads, stays}
-use Rattle.rm_machine_laws.proofs.Settings.{parallelism-on, parallelism-stays, retention-on, retention-stays}
-use Rattle.rm_lang_statement.specs.declared.command.Command.TheVariants.{Parallelism, Retention}
+use Rattle.rm_machine_laws.proofs.{Leading.{leads, stays}, Settings.{parallelism-on, parallelism-stays, retention-on, retention-stays}}
 use Rattle.rm_machine_laws.proofs.laws.settings_lead_on.Goals as goal
+use Rattle.rm_lang_statement.specs.declared.command.Command.TheVariants.{Parallelism, Retention}
 
 pub returns-clause-retention : goal.returns-clause-retention
 returns-clause-retention c form = leads (Retention form) (retention-on form)

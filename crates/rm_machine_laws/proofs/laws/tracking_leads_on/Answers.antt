@@ -1,7 +1,5 @@
-use Rattle.rm_machine_laws.proofs.Leading.{leads, stays}
-use Rattle.rm_machine_laws.proofs.Tracking.{tracking-on, tracking-stays}
+use Rattle.rm_machine_laws.proofs.{Leading.{leads, stays}, Tracking.{tracking-on, tracking-stays}, laws.tracking_leads_on.Goals as goal}
 use Rattle.rm_lang_statement.specs.declared.command.Command.TheVariants.{Tracking}
-use Rattle.rm_machine_laws.proofs.laws.tracking_leads_on.Goals as goal
 
 pub returns-clause-leads : goal.returns-clause-leads
 returns-clause-leads c on = leads (Tracking on) (tracking-on on)

@@ -1,8 +1,7 @@
-use Rattle.rm_machine_laws.proofs.Deleting.{delete-on, delete-stays}
-use Rattle.rm_machine_laws.proofs.Leading.{leads, stays}
+use Rattle.rm_machine_laws.proofs.{Deleting.{delete-on, delete-stays}, Leading.{leads, stays}}
 use Rattle.rm_machine_laws.proofs.Upkeep.{changed-on, changed-stays, checked-on, checked-stays, expired-on, expired-stays}
-use Rattle.rm_lang_statement.specs.declared.command.Command.TheVariants.{ChangeBackup, Crosscheck, DeleteBackup, DeleteExpired}
 use Rattle.rm_machine_laws.proofs.laws.upkeep_leads_on.Goals as goal
+use Rattle.rm_lang_statement.specs.declared.command.Command.TheVariants.{ChangeBackup, Crosscheck, DeleteBackup, DeleteExpired}
 
 pub returns-clause-changes : goal.returns-clause-changes
 returns-clause-changes c id to = leads (ChangeBackup id to) (changed-on id to)

@@ -1,5 +1,4 @@
-use Rattle.rm_machine_laws.proofs.Leading.{leads, stays, tells}
-use Rattle.rm_machine_laws.proofs.Telling.{every-tells-by, never-done, tells-on, tells-stays}
+use Rattle.rm_machine_laws.proofs.{Leading.{leads, stays, tells}, Telling.{every-tells-by, never-done, tells-on, tells-stays}}
 use Rattle.rm_machine_laws.proofs.laws.what_only_tells_leads_on.Goals as goal
 
 pub returns-clause-never : goal.returns-clause-never

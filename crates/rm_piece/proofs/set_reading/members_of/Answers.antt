@@ -1,9 +1,6 @@
-use Rattle.std.proofs.Common.{rules, ◌≡◌, ◌∙◌, ◌∷◌, [], ◌++◌, arith, length, sym, subst, All}
-use Rattle.std.specs.List.{flat_map}
-use Rattle.std.proofs.lemmas.List.{length-append}
-use Rattle.std.proofs.lemmas.List.Elements.{All-push}
-use Rattle.rm_piece.specs.SetSpelling.{member_bytes}
-use Rattle.rm_piece.specs.Sets.{IsMember}
+use Rattle.std.{specs.List.{flat_map}, proofs.Common.{rules, ◌≡◌, ◌∙◌, ◌∷◌, [], ◌++◌, arith, length, sym, subst, All}}
+use Rattle.std.proofs.lemmas.List.{length-append, Elements.{All-push}}
+use Rattle.rm_piece.specs.{SetSpelling.{member_bytes}, Sets.{IsMember}}
 use Rattle.rm_piece.proofs.SetReading.{all-members, next-member, next-room, next-valid, turn-members, turn-room}
 use Rattle.rm_piece.proofs.set_reading.members_of.Goals as goal
 

@@ -1,8 +1,5 @@
-use Rattle.std.proofs.Common.{rules, ◌∙◌, arith, sym, subst}
-use Rattle.std.specs.Prelude.{IsTrue}
-use Rattle.std.specs.List.{AllPairs}
-use Rattle.rm_piece.specs.Sets.{IsBeforeMember}
-use Rattle.rm_piece.proofs.SetReading.{members-told, set-found, set-is, set-long, set-told}
+use Rattle.std.{specs.{Prelude.{IsTrue}, List.{AllPairs}}, proofs.Common.{rules, ◌∙◌, arith, sym, subst}}
+use Rattle.rm_piece.{specs.Sets.{IsBeforeMember}, proofs.SetReading.{members-told, set-found, set-is, set-long, set-told}}
 use Rattle.rm_piece.proofs.set_reading.set_of_body.Goals as goal
 
 pub returns-then-body-lt25-clause-only : goal.returns-then-body-lt25-clause-only

@@ -1,10 +1,5 @@
-use Rattle.std.proofs.Common.{rules, ◌∙◌, ◌++◌, sym, subst, arith, length}
-use Rattle.std.specs.List.{flat_map}
-use Rattle.std.specs.Prelude.{IsTrue}
-use Rattle.rm_piece.specs.SetSpelling.{spelled}
-use Rattle.rm_piece.specs.Sets.{IsMember}
-use Rattle.rm_piece.specs.Spelling.{row_bytes}
-use Rattle.rm_piece.proofs.SetFitting.{member_is}
+use Rattle.std.{specs.{List.{flat_map}, Prelude.{IsTrue}}, proofs.Common.{rules, ◌∙◌, ◌++◌, sym, subst, arith, length}}
+use Rattle.rm_piece.{specs.{SetSpelling.{spelled}, Sets.{IsMember}, Spelling.{row_bytes}}, proofs.SetFitting.{member_is}}
 use Rattle.rm_piece.proofs.SetReading.{enough, member-apart, member-found, member-long, rows-told, told}
 use Rattle.rm_piece.proofs.set_reading.take_member.Goals as goal
 use Rattle.rm_piece.proofs.set_reading.take_member.Goals.{then-room-head-via-then-room-head, then-room-head-via-else-room-head+then-rest-count}

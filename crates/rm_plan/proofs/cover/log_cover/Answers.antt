@@ -1,9 +1,6 @@
 use Rattle.std.proofs.Common.{◌∙◌, ◌&&◌, List, Bool, arith, ap, sym}
 use Rattle.rm_evidence.specs.Database.{world_of}
-use Rattle.rm_plan.specs.Covers.{threads_cover}
-use Rattle.rm_plan.specs.declared.span.Span.{Span}
-use Rattle.rm_plan.specs.Spans.{covers}
-use Rattle.rm_plan.proofs.Switched.{cover-more}
+use Rattle.rm_plan.{specs.{Covers.{threads_cover}, Spans.{covers}, declared.span.Span.{Span}}, proofs.Switched.{cover-more}}
 use Rattle.rm_plan.proofs.cover.log_cover.Goals as goal
 
 pub loop-thread-preserved : goal.loop-thread-preserved

@@ -1,9 +1,6 @@
 use Rattle.std.proofs.Common.{Option, IfNone, arith, subst}
-use Rattle.rm_evidence.specs.Known.{known_of}
-use Rattle.rm_evidence.specs.Database.{world_of}
-use Rattle.rm_plan.specs.declared.plan.Gap.{Gap}
-use Rattle.rm_plan.specs.FirstGap.{FileDetermined}
-use Rattle.rm_plan.proofs.Firsts.{all_files, files_more}
+use Rattle.rm_evidence.specs.{Known.{known_of}, Database.{world_of}}
+use Rattle.rm_plan.{specs.{FirstGap.{FileDetermined}, declared.plan.Gap.{Gap}}, proofs.Firsts.{all_files, files_more}}
 use Rattle.rm_plan.proofs.first.first_gap.Goals as goal
 
 pub loop-file-preserved : goal.loop-file-preserved

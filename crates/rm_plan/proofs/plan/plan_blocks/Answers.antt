@@ -1,10 +1,7 @@
 use Rattle.std.proofs.Common.{◌+◌, List, map, subst, sym, take}
 use Rattle.rm_base.specs.declared.block.Part.{Part}
-use Rattle.rm_evidence.specs.Known.{known_of}
-use Rattle.rm_evidence.specs.Database.{world_of}
-use Rattle.rm_plan.specs.Chosen.{AreToldParts, IsFaultOf, id_of}
-use Rattle.rm_plan.proofs.Chosen.{chosen-fault, chosen-more}
-use Rattle.rm_plan.proofs.Faults.{handed_on}
+use Rattle.rm_evidence.specs.{Known.{known_of}, Database.{world_of}}
+use Rattle.rm_plan.{specs.Chosen.{AreToldParts, IsFaultOf, id_of}, proofs.{Chosen.{chosen-fault, chosen-more}, Faults.{handed_on}}}
 use Rattle.rm_plan.proofs.plan.plan_blocks.Goals as goal
 
 pub returns-in_err-version-clause-gap : goal.returns-in_err-version-clause-gap

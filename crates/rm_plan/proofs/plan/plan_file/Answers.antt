@@ -1,10 +1,7 @@
 use Rattle.std.proofs.Common.{◌<◌, ◌+◌, ◌∙◌, List, arith, subst, sym}
 use Rattle.rm_base.specs.declared.block.Part.{Part}
-use Rattle.rm_evidence.specs.Known.{known_of}
-use Rattle.rm_evidence.specs.Database.{world_of}
-use Rattle.rm_plan.specs.Plan.{AreParts, IsFileFault}
-use Rattle.rm_plan.proofs.Faults.{file_fault, handed_on}
-use Rattle.rm_plan.proofs.Parts.{part_more, within_file}
+use Rattle.rm_evidence.specs.{Known.{known_of}, Database.{world_of}}
+use Rattle.rm_plan.{specs.Plan.{AreParts, IsFileFault}, proofs.{Faults.{file_fault, handed_on}, Parts.{part_more, within_file}}}
 use Rattle.rm_plan.proofs.plan.plan_file.Goals as goal
 
 pub returns-in_err-version-clause-gap : goal.returns-in_err-version-clause-gap

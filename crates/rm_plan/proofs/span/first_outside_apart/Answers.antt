@@ -1,8 +1,5 @@
-use Rattle.std.proofs.Common.{nat_le, rules, arith}
-use Rattle.std.proofs.lemmas.List.Sorted.{IsPartitionPoint-from_clause, IsPartitionedBy-leb}
-use Rattle.rm_plan.specs.declared.span.Span.{Span}
-use Rattle.rm_plan.proofs.Conditions.{gt_from, le_from}
-use Rattle.rm_plan.proofs.Spans.{outside_apart, outside_before}
+use Rattle.std.proofs.{Common.{nat_le, rules, arith}, lemmas.List.Sorted.{IsPartitionPoint-from_clause, IsPartitionedBy-leb}}
+use Rattle.rm_plan.{specs.declared.span.Span.{Span}, proofs.{Conditions.{gt_from, le_from}, Spans.{outside_apart, outside_before}}}
 use Rattle.rm_plan.proofs.span.first_outside_apart.Goals as goal
 
 abbrev blank : Span

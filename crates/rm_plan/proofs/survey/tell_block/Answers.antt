@@ -1,11 +1,7 @@
 use Rattle.std.proofs.Common.{◌≡◌, List, arith, ap, ◌∙◌}
-use Rattle.rm_history.specs.declared.tree.Incarnation.{Incarnation}
-use Rattle.rm_history.specs.Tree.{owner}
-use Rattle.rm_evidence.specs.Database.{world_of}
-use Rattle.rm_evidence.proofs.DatabaseWorlds.{is-sound}
-use Rattle.rm_plan.proofs.Determining.{found_below, found_gap, found_told}
-use Rattle.rm_evidence.proofs.Worlds.{is_world}
-use Rattle.rm_plan.proofs.survey.tell_block.Goals as goal
+use Rattle.rm_history.specs.{Tree.{owner}, declared.tree.Incarnation.{Incarnation}}
+use Rattle.rm_evidence.{specs.Database.{world_of}, proofs.{DatabaseWorlds.{is-sound}, Worlds.{is_world}}}
+use Rattle.rm_plan.proofs.{Determining.{found_below, found_gap, found_told}, survey.tell_block.Goals as goal}
 
 pub first_uncovered-requires-clause-below : goal.first_uncovered-requires-clause-below
 first_uncovered-requires-clause-below c =

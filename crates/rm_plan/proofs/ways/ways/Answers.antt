@@ -1,8 +1,5 @@
-use Rattle.std.proofs.Common.{◌≡◌, ◌<◌, ◌+◌, ◌∙◌, List, ℕ, length, get_or, ap, sym, subst, arith}
-use Rattle.std.proofs.lemmas.List.{length_push}
-use Rattle.rm_plan.specs.declared.span.Span.{Span}
-use Rattle.rm_plan.specs.Ways.{IsWay, nowhere}
-use Rattle.rm_plan.proofs.Agreeing.{more_ways, are_ways}
+use Rattle.std.proofs.{Common.{◌≡◌, ◌<◌, ◌+◌, ◌∙◌, List, ℕ, length, get_or, ap, sym, subst, arith}, lemmas.List.{length_push}}
+use Rattle.rm_plan.{specs.{Ways.{IsWay, nowhere}, declared.span.Span.{Span}}, proofs.Agreeing.{more_ways, are_ways}}
 use Rattle.rm_plan.proofs.ways.ways.Goals as goal
 
 pub loop-index-preserved : goal.loop-index-preserved

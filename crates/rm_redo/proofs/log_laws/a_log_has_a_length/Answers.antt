@@ -1,8 +1,6 @@
 use Rattle.std.proofs.Common.{arith}
 use Rattle.rm_base.proofs.Sealing.{length-sealed}
-use Rattle.rm_redo.specs.LogFormat.{body_of}
-use Rattle.rm_redo.proofs.LogBodies.{length-body}
-use Rattle.rm_redo.proofs.LogFitting.{fits}
+use Rattle.rm_redo.{specs.LogFormat.{body_of}, proofs.{LogBodies.{length-body}, LogFitting.{fits}}}
 use Rattle.rm_redo.proofs.log_laws.a_log_has_a_length.Goals as goal
 
 pub returns : goal.returns

@@ -1,14 +1,10 @@
 use Rattle.std.proofs.Common.{◌≡◌, ◌∙◌, ◌++◌, ◌≤◌, ◌<◌, ℕ, List, [], All, ap, append_assoc, get_or, length, refl, subst, sym, take, rules}
 use Rattle.std.proofs.lemmas.List.Elements.{All-get_or, All-take}
 use Rattle.rm_base.specs.declared.block.BlockId.{BlockId}
-use Rattle.rm_evidence.specs.Known.{known_of}
-use Rattle.rm_evidence.specs.Database.{world_of}
-use Rattle.rm_history.specs.declared.world.World.{World}
-use Rattle.rm_history.specs.FirstGap.{IsTarget}
-use Rattle.rm_plan.specs.Chosen.{IsFaultOf}
-use Rattle.rm_plan.proofs.Faults.{handed_on}
-use Rattle.rm_repair.specs.declared.jobs.MendJob.{MendJob}
-use Rattle.rm_repair.specs.Jobs.{AreMendJobs}
+use Rattle.rm_evidence.specs.{Known.{known_of}, Database.{world_of}}
+use Rattle.rm_history.specs.{FirstGap.{IsTarget}, declared.world.World.{World}}
+use Rattle.rm_plan.{specs.Chosen.{IsFaultOf}, proofs.Faults.{handed_on}}
+use Rattle.rm_repair.specs.{Jobs.{AreMendJobs}, declared.jobs.MendJob.{MendJob}}
 use Rattle.rm_repair.proofs.Told.{All-behind, fault-behind, file-target, jobs-more, no-jobs, run-files, run-within}
 use Rattle.rm_repair.proofs.jobs.mend_jobs.Goals as goal
 

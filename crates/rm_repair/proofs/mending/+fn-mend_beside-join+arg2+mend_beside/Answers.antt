@@ -1,14 +1,9 @@
-use Rattle.std.proofs.Common.{◌≡◌, ◌∙◌, Ok, ◌+◌, ◌++◌, ◌<◌, ◌/◌, ℕ, List, Vec, All, length, length-append, ap, subst, sym, take, drop, rules, arith}
 use Rattle.std.specs.Global.{Global}
+use Rattle.std.proofs.Common.{◌≡◌, ◌∙◌, Ok, ◌+◌, ◌++◌, ◌<◌, ◌/◌, ℕ, List, Vec, All, length, length-append, ap, subst, sym, take, drop, rules, arith}
 use Rattle.std.proofs.lemmas.List.{length-map}
 use Rattle.rm_base.specs.declared.faults.NoMemory.{NoMemory}
-use Rattle.rm_live.specs.Parts.{Parts}
-use Rattle.rm_live.specs.Passes.{Standing}
-use Rattle.rm_live.specs.Ruled.{half}
-use Rattle.rm_channel.specs.declared.jobs.WriteJob.{WriteJob}
-use Rattle.rm_channel.specs.Jobs.{lists}
-use Rattle.rm_channel.specs.Runs.{HasWritten}
-use Rattle.rm_channel.proofs.Shares.{no-lists}
+use Rattle.rm_live.specs.{Parts.{Parts}, Passes.{Standing}, Ruled.{half}}
+use Rattle.rm_channel.{specs.{Jobs.{lists}, Runs.{HasWritten}, declared.jobs.WriteJob.{WriteJob}}, proofs.Shares.{no-lists}}
 use Rattle.rm_channel.proofs.Split.{as-half, first-half, lists-both, second-half, split-halves}
 use Rattle.rm_repair.specs.Mended.{CanGo, HasBlock, HasMendedBeside, IsOlder}
 use Rattle.rm_repair.proofs.Beside.{back-room, beside-both, beside-none, can-back, can-front, front-room, some-by}

@@ -1,11 +1,8 @@
-use Rattle.std.proofs.Common.{ℕ, [], List, ap, get_or, subst, sym, rules}
-use Rattle.std.proofs.lemmas.List.Elements.{All-get_or}
+use Rattle.std.proofs.{Common.{ℕ, [], List, ap, get_or, subst, sym, rules}, lemmas.List.Elements.{All-get_or}}
 use Rattle.rm_blocks.specs.File.{File}
 use Rattle.rm_live.specs.Passes.{Standing}
 use Rattle.rm_channel.proofs.Steps.{later-then}
-use Rattle.rm_repair.specs.declared.jobs.MendJob.{MendJob}
-use Rattle.rm_repair.specs.Mended.{HasBlock}
-use Rattle.rm_repair.proofs.Mends.{mended-more}
+use Rattle.rm_repair.{specs.{Mended.{HasBlock}, declared.jobs.MendJob.{MendJob}}, proofs.Mends.{mended-more}}
 use Rattle.rm_repair.proofs.mending.mend_all.Goals as goal
 
 abbrev no_job : MendJob

@@ -1,8 +1,6 @@
 use Rattle.std.proofs.Common.{◌<◌, ◌∙◌, nat_lt, ℕ, List, sym, subst, arith, ap, map, filter, length, take_all, AllPairs}
-use Rattle.rm_retain.specs.declared.copies.Backup.{Backup}
-use Rattle.rm_retain.specs.Chosen.{is_among, newest, rank}
-use Rattle.rm_retain.proofs.ByAge.{newest_is, newest_none, short_of}
-use Rattle.rm_retain.proofs.Ranks.{ascend_filter, ids_ascend, rising_from}
+use Rattle.rm_retain.specs.{Chosen.{is_among, newest, rank}, declared.copies.Backup.{Backup}}
+use Rattle.rm_retain.proofs.{ByAge.{newest_is, newest_none, short_of}, Ranks.{ascend_filter, ids_ascend, rising_from}}
 use Rattle.rm_retain.proofs.copies.newest_ids.Goals as goal
 
 pub returns-then-wanted-eq0-clause-exact : goal.returns-then-wanted-eq0-clause-exact

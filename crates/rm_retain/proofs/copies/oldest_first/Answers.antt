@@ -1,11 +1,6 @@
-use Rattle.std.proofs.Common.{◌≡◌, rules, ℕ, List, Bor, subst}
-use Rattle.std.specs.List.Sorted.{IsStableByKey}
-use Rattle.std.specs.Ordering.{nat_cmp}
-use Rattle.std.proofs.lemmas.Fn.{always_returns_same}
-use Rattle.std.proofs.lemmas.List.Sorted.{IsNonDecreasingBy-from_sort_by_key}
-use Rattle.rm_retain.specs.declared.copies.Backup.{Backup}
-use Rattle.rm_retain.proofs.ByAge.{by_age}
-use Rattle.rm_retain.proofs.Ranks.{rising_from}
+use Rattle.std.{specs.{List.Sorted.{IsStableByKey}, Ordering.{nat_cmp}}, proofs.Common.{◌≡◌, rules, ℕ, List, Bor, subst}}
+use Rattle.std.proofs.lemmas.{Fn.{always_returns_same}, List.Sorted.{IsNonDecreasingBy-from_sort_by_key}}
+use Rattle.rm_retain.{specs.declared.copies.Backup.{Backup}, proofs.{ByAge.{by_age}, Ranks.{rising_from}}}
 use Rattle.rm_retain.proofs.copies.oldest_first.Goals as goal
 
 pub returns-clause-order : goal.returns-clause-order

@@ -1,10 +1,6 @@
-use Rattle.std.proofs.Common.{◌∙◌, List, sym, subst, ap}
-use Rattle.std.specs.List.{list_any}
+use Rattle.std.{specs.List.{list_any}, proofs.Common.{◌∙◌, List, sym, subst, ap}}
 use Rattle.rm_history.specs.declared.tree.Incarnation.{Incarnation}
-use Rattle.rm_retain.specs.declared.file_need.FileNeed.{FileNeed}
-use Rattle.rm_retain.specs.Obsolete.{IsClip}
-use Rattle.rm_retain.specs.Needs.{needs_clip}
-use Rattle.rm_retain.proofs.Decisions.{log_is}
+use Rattle.rm_retain.{specs.{Obsolete.{IsClip}, Needs.{needs_clip}, declared.file_need.FileNeed.{FileNeed}}, proofs.Decisions.{log_is}}
 use Rattle.rm_retain.proofs.deciding.is_obsolete_log.Goals as goal
 
 pub returns-then-may_go : goal.returns-then-may_go

@@ -1,15 +1,9 @@
 use Rattle.std.proofs.Common.{◌≡◌, ◌≢◌, ◌∙◌, ◌+◌, ◌∷◌, ◌++◌, [], ℕ, List, Vec, Global, AllPairs, take, take_all, sym, subst, ap}
 use Rattle.std.proofs.lemmas.Bool.{both_ways}
-use Rattle.rm_catalog.specs.declared.record.Record.{Record}
-use Rattle.rm_catalog.specs.declared.record.Key.{Key}
-use Rattle.rm_catalog.specs.Keys.{key_of}
-use Rattle.rm_catalog.specs.Rules.{IsCatalog}
-use Rattle.rm_evidence.proofs.Fitting.{item-there}
-use Rattle.rm_evidence.proofs.Runs.{is-apart}
-use Rattle.rm_retain.specs.Needs.{needed_by}
-use Rattle.rm_retain.specs.Catalogued.{AreObsolete, IsObsoleteRecord}
-use Rattle.rm_retain.proofs.Ids.{exactly_taken, exactly_passed, apart_taken}
-use Rattle.rm_retain.proofs.deciding.obsolete_ids.Goals as goal
+use Rattle.rm_catalog.specs.{Keys.{key_of}, Rules.{IsCatalog}, declared.record.{Record.{Record}, Key.{Key}}}
+use Rattle.rm_evidence.proofs.{Fitting.{item-there}, Runs.{is-apart}}
+use Rattle.rm_retain.specs.{Needs.{needed_by}, Catalogued.{AreObsolete, IsObsoleteRecord}}
+use Rattle.rm_retain.proofs.{Ids.{exactly_taken, exactly_passed, apart_taken}, deciding.obsolete_ids.Goals as goal}
 use Rattle.rm_retain.proofs.deciding.obsolete_ids.Goals.{then-is_obsolete+in_ok-push, else-is_obsolete}
 
 pub is_obsolete-requires-clause-there : goal.is_obsolete-requires-clause-there

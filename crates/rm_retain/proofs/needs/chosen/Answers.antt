@@ -1,7 +1,5 @@
 use Rattle.std.proofs.Common.{◌∙◌, List, sym, subst}
-use Rattle.rm_retain.specs.declared.copies.Backup.{Backup}
-use Rattle.rm_retain.specs.Chosen.{Ascend, AscendById}
-use Rattle.rm_retain.proofs.Ranks.{candidates_ascend}
+use Rattle.rm_retain.{specs.{Chosen.{Ascend, AscendById}, declared.copies.Backup.{Backup}}, proofs.Ranks.{candidates_ascend}}
 use Rattle.rm_retain.proofs.needs.chosen.Goals as goal
 
 pub newest_ids-requires : goal.newest_ids-requires

@@ -1,7 +1,5 @@
 use Rattle.std.proofs.Common.{◌∙◌, List, sym, subst}
-use Rattle.rm_retain.specs.declared.copies.Backup.{Backup}
-use Rattle.rm_retain.specs.Chosen.{AscendById}
-use Rattle.rm_retain.proofs.Ranks.{candidates_ascend}
+use Rattle.rm_retain.{specs.{Chosen.{AscendById}, declared.copies.Backup.{Backup}}, proofs.Ranks.{candidates_ascend}}
 use Rattle.rm_retain.proofs.needs.need_on.Goals as goal
 
 pub floor_on-requires : goal.floor_on-requires

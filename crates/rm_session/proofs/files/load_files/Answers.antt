@@ -1,8 +1,5 @@
-use Rattle.std.proofs.Common.{◌∙◌, [], ◌∷◌, ap, arith, length}
-use Rattle.std.proofs.lemmas.List.{length-append}
-use Rattle.std.proofs.lemmas.Option.{IfSome_then}
-use Rattle.rm_session.specs.Fit.{FitsAt, IsLoadedAt}
-use Rattle.rm_session.proofs.Places.{fits-at, fits-more, loaded-at, told-more}
+use Rattle.std.proofs.{Common.{◌∙◌, [], ◌∷◌, ap, arith, length}, lemmas.{List.{length-append}, Option.{IfSome_then}}}
+use Rattle.rm_session.{specs.Fit.{FitsAt, IsLoadedAt}, proofs.Places.{fits-at, fits-more, loaded-at, told-more}}
 use Rattle.rm_session.proofs.files.load_files.Goals as goal
 
 pub loop-index-preserved : goal.loop-index-preserved

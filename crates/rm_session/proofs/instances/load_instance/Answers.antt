@@ -1,8 +1,6 @@
 use Rattle.std.proofs.Common.{IfSome, Option, refl, subst}
 use Rattle.rm_base.specs.Store.{Held}
-use Rattle.rm_session.proofs.Firsts.{fit-there, fit-valid}
-use Rattle.rm_session.proofs.Loads.{had-of}
-use Rattle.rm_session.specs.Fit.{AllAt, IsLogAt}
+use Rattle.rm_session.{specs.Fit.{AllAt, IsLogAt}, proofs.{Firsts.{fit-there, fit-valid}, Loads.{had-of}}}
 use Rattle.rm_session.proofs.instances.load_instance.Goals as goal
 
 pub online_of-requires-clause-valid : goal.online_of-requires-clause-valid

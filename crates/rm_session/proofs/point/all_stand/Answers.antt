@@ -1,12 +1,10 @@
-use Rattle.std.proofs.Common.{◌≡◌, ◌<◌, ◌∙◌, ℕ, List, Option, Some, refl, sym, ap, arith, length, get_or, slice_get}
 use Rattle.std.specs.Prelude.{IsTrue}
-use Rattle.std.proofs.lemmas.Bool.{false≢true}
-use Rattle.std.proofs.lemmas.Option.{slice_get-get_or, slice_get_read, slice_get_within}
+use Rattle.std.proofs.Common.{◌≡◌, ◌<◌, ◌∙◌, ℕ, List, Option, Some, refl, sym, ap, arith, length, get_or, slice_get}
+use Rattle.std.proofs.lemmas.{Bool.{false≢true}, Option.{slice_get-get_or, slice_get_read, slice_get_within}}
 use Rattle.rm_blocks.specs.File.{File}
 use Rattle.rm_history.specs.declared.world.Datafile.{Datafile}
 use Rattle.rm_machine.specs.State.{ledger}
-use Rattle.rm_session.proofs.Standing.{stand-more, standing, stands}
-use Rattle.rm_session.proofs.point.all_stand.Goals as goal
+use Rattle.rm_session.proofs.{Standing.{stand-more, standing, stands}, point.all_stand.Goals as goal}
 use Rattle.rm_session.proofs.point.all_stand.Goals.{else-exists-via-then-exists+else-not-stands_at, else-exists-via-else-exists}
 
 abbrev any : Datafile

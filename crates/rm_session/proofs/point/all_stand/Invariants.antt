@@ -1,8 +1,6 @@
 use Rattle.std.specs.Prelude.{◌≡◌, ◌<◌, ℕ, Some, true, slice_get}
-use Rattle.rm_history.specs.World.{exists}
-use Rattle.rm_history.specs.declared.world.Datafile.{Datafile}
-use Rattle.rm_machine.specs.Sound.{StandsAt}
-use Rattle.rm_machine.specs.State.{ledger, world}
+use Rattle.rm_history.specs.{World.{exists}, declared.world.Datafile.{Datafile}}
+use Rattle.rm_machine.specs.{Sound.{StandsAt}, State.{ledger, world}}
 use Rattle.rm_session.proofs.point.all_stand.Given as goal
 
 abbrev pub invariant-loop-index : goal.invariant-loop-index

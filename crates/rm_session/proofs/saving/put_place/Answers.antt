@@ -1,6 +1,5 @@
 use Rattle.std.proofs.Common.{sym, subst}
-use Rattle.rm_machine.specs.Sound.{IsSound}
-use Rattle.rm_machine.proofs.Undamaged.{sound-undamaged}
+use Rattle.rm_machine.{specs.Sound.{IsSound}, proofs.Undamaged.{sound-undamaged}}
 use Rattle.rm_session.proofs.saving.put_place.Goals as goal
 
 pub put_all-requires-clause-sound : goal.put_all-requires-clause-sound

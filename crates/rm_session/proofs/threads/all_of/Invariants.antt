@@ -1,5 +1,4 @@
-use Rattle.std.specs.Prelude.{◌≡◌, ◌++◌, map}
-use Rattle.std.specs.Vec.Iter.{into_iter_items}
+use Rattle.std.specs.{Prelude.{◌≡◌, ◌++◌, map}, Vec.Iter.{into_iter_items}}
 use Rattle.rm_machine.specs.Loading.{where_of}
 use Rattle.rm_session.proofs.threads.all_of.Given as goal
 

@@ -1,5 +1,4 @@
-use Rattle.std.specs.Prelude.{◌≡◌}
-use Rattle.std.proofs.Common.{drop}
+use Rattle.std.{specs.Prelude.{◌≡◌}, proofs.Common.{drop}}
 use Rattle.rm_machine.specs.Loading.{inc_of_first}
 use Rattle.rm_session.proofs.threads.inc_of_first.Given as goal
 

@@ -1,15 +1,9 @@
-use Rattle.std.proofs.Common.{◌≡◌, ◌∙◌, None, Some, [], All, ap, refl, subst, sym, true, false}
-use Rattle.std.proofs.lemmas.List.Elements.{All-cons, All-nil}
+use Rattle.std.proofs.{Common.{◌≡◌, ◌∙◌, None, Some, [], All, ap, refl, subst, sym, true, false}, lemmas.List.Elements.{All-cons, All-nil}}
 use Rattle.rm_machine.specs.Laws.{only_tells}
 use Rattle.rm_machine_laws.specs.Refused.{refusal_without}
-use Rattle.rm_site.proofs.Answering.{is-carried, is-halted, is-refused, on-err}
-use Rattle.rm_site.proofs.Creating.{comes-refused, founded, founded-sound}
-use Rattle.rm_site.proofs.ComesOut.{out-done, out-refused}
-use Rattle.rm_site.proofs.Quiet.{not-quiet}
-use Rattle.rm_report.proofs.Plain.{refused-flagged, said-flagged}
-use Rattle.rm_report.specs.Reply.{IsPlain}
-use Rattle.rm_report.specs.declared.line.Line.TheVariants.{DatabaseAt}
-use Rattle.rm_site.proofs.step.answer_without.Goals as goal
+use Rattle.rm_site.proofs.{Answering.{is-carried, is-halted, is-refused, on-err}, Creating.{comes-refused, founded, founded-sound}}
+use Rattle.rm_site.proofs.{ComesOut.{out-done, out-refused}, Quiet.{not-quiet}, step.answer_without.Goals as goal}
+use Rattle.rm_report.{specs.{Reply.{IsPlain}, declared.line.Line.TheVariants.{DatabaseAt}}, proofs.Plain.{refused-flagged, said-flagged}}
 
 pub returns-in-Some-clause-step : goal.returns-in-Some-clause-step
 returns-in-Some-clause-step g c =

@@ -1,7 +1,6 @@
 use Rattle.std.proofs.Common.{rules, ◌≡◌, ◌∙◌, ◌+◌, ◌++◌, ◌∷◌, [], List, ap, sym, zero-add}
-use Rattle.rm_base.specs.declared.block.Row.{Row}
+use Rattle.rm_base.specs.{Created.{created_row}, declared.block.Row.{Row}}
 use Rattle.rm_history.proofs.BlockRows.{rows_from-push}
-use Rattle.rm_base.specs.Created.{created_row}
 use Rattle.rm_standby.proofs.rolling.created_rows.Goals as goal
 
 pub loop-block-preserved : goal.loop-block-preserved

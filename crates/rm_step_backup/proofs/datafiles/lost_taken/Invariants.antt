@@ -1,6 +1,5 @@
 use Rattle.std.proofs.Common.{◌≡◌, ◌+◌, drop, find, is_none}
-use Rattle.rm_machine.specs.Backup.{lost_taken, taken_from}
-use Rattle.rm_machine.specs.State.{ledger, placed}
+use Rattle.rm_machine.specs.{Backup.{lost_taken, taken_from}, State.{ledger, placed}}
 use Rattle.rm_step_backup.proofs.datafiles.lost_taken.Given as goal
 
 abbrev pub invariant-loop-index : goal.invariant-loop-index

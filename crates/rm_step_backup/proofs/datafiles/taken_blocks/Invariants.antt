@@ -1,7 +1,6 @@
 use Rattle.std.proofs.Common.{◌≡◌, ◌+◌, ◌*◌, ◌≤◌, drop, sum_by}
 use Rattle.rm_history.specs.World.{blocks_of}
-use Rattle.rm_machine.specs.Backup.{taken, taken_from}
-use Rattle.rm_machine.specs.State.{ledger, world}
+use Rattle.rm_machine.specs.{Backup.{taken, taken_from}, State.{ledger, world}}
 use Rattle.rm_step_backup.proofs.datafiles.taken_blocks.Given as goal
 
 abbrev pub invariant-loop-index : goal.invariant-loop-index

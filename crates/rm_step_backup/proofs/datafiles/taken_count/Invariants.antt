@@ -1,6 +1,5 @@
 use Rattle.std.proofs.Common.{◌≡◌, ◌+◌, ◌≤◌, drop, length}
-use Rattle.rm_machine.specs.Backup.{taken, taken_from}
-use Rattle.rm_machine.specs.State.{ledger}
+use Rattle.rm_machine.specs.{Backup.{taken, taken_from}, State.{ledger}}
 use Rattle.rm_step_backup.proofs.datafiles.taken_count.Given as goal
 
 abbrev pub invariant-loop-index : goal.invariant-loop-index

@@ -1,16 +1,12 @@
-use Rattle.std.proofs.Common.{rules, ◌≡◌, ◌∙◌, ◌+◌, ◌++◌, None, Some, ℕ, List, ap, arith, map, subst, sym}
+use Rattle.std.{specs.Prelude.{IfSome}, proofs.Common.{rules, ◌≡◌, ◌∙◌, ◌+◌, ◌++◌, None, Some, ℕ, List, ap, arith, map, subst, sym}}
 use Rattle.std.proofs.lemmas.Bool.{le-ltb}
-use Rattle.std.specs.Prelude.{IfSome}
 use Rattle.rm_commit.specs.declared.commit.Object.{Object}
-use Rattle.rm_machine.specs.BackupLogs.{copies_of, copies_refusal, copy_line, copy_object}
-use Rattle.rm_machine.specs.State.{ledger}
+use Rattle.rm_machine.specs.{BackupLogs.{copies_of, copies_refusal, copy_line, copy_object}, State.{ledger}}
 use Rattle.rm_machine.proofs.BackingUpLogs.{room-for}
 use Rattle.rm_redo.specs.declared.log_file.LogFile.{LogFile}
 use Rattle.rm_report.specs.declared.line.Line.{Line}
-use Rattle.rm_step_backup.specs.Logs.{AreRecorded, IsAll}
-use Rattle.rm_step_backup.specs.declared.looking.Looked.{Looked}
-use Rattle.rm_step_backup.proofs.LogBackups.{all-dated, all-short, copies-hands, copies-refused, logs_in}
-use Rattle.rm_step_backup.proofs.logs.backup_logs.Goals as goal
+use Rattle.rm_step_backup.specs.{Logs.{AreRecorded, IsAll}, declared.looking.Looked.{Looked}}
+use Rattle.rm_step_backup.proofs.{LogBackups.{all-dated, all-short, copies-hands, copies-refused, logs_in}, logs.backup_logs.Goals as goal}
 
 pub copies_refusal-requires-clause-short : goal.copies_refusal-requires-clause-short
 copies_refusal-requires-clause-short g c =

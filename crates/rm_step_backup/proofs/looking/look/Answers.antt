@@ -1,11 +1,9 @@
 use Rattle.std.proofs.Common.{◌≡◌, ◌<◌, ◌∙◌, List, AllPairs, Contains, get_or, refl, arith, subst, sym}
-use Rattle.std.proofs.lemmas.List.Elements.{Contains-get_or}
-use Rattle.std.proofs.lemmas.Option.{IfSome_then}
+use Rattle.std.proofs.lemmas.{List.Elements.{Contains-get_or}, Option.{IfSome_then}}
 use Rattle.rm_catalog.specs.declared.record.LogEntry.{LogEntry}
-use Rattle.rm_step_backup.specs.Logs.{IsAll}
-use Rattle.rm_step_backup.proofs.Archived.{first-look, next-look, no_log, none-recorded, whole-look}
-use Rattle.rm_machine.specs.State.{ledger}
+use Rattle.rm_step_backup.{specs.Logs.{IsAll}, proofs.Archived.{first-look, next-look, no_log, none-recorded, whole-look}}
 use Rattle.rm_step_backup.proofs.looking.look.Goals as goal
+use Rattle.rm_machine.specs.State.{ledger}
 
 pub loop-entry-init : goal.loop-entry-init
 loop-entry-init g c = record {

@@ -1,9 +1,6 @@
-use Rattle.std.proofs.Common.{◌≡◌, ◌≤◌, take}
-use Rattle.std.specs.Prelude.{IfSome}
+use Rattle.std.{specs.Prelude.{IfSome}, proofs.Common.{◌≡◌, ◌≤◌, take}}
 use Rattle.rm_machine.specs.State.{ledger}
-use Rattle.rm_step_backup.specs.Logs.{Adds, AreRecorded}
-use Rattle.rm_step_backup.proofs.Archived.{nothing}
-use Rattle.rm_step_backup.proofs.looking.look.Given as goal
+use Rattle.rm_step_backup.{specs.Logs.{Adds, AreRecorded}, proofs.{Archived.{nothing}, looking.look.Given as goal}}
 
 abbrev pub invariant-loop-entry : goal.invariant-loop-entry
 invariant-loop-entry g l = record {

@@ -1,16 +1,10 @@
-use Rattle.std.proofs.Common.{◌≡◌, ◌&&◌, [], ◌∷◌, true, false, refl, rules, subst}
-use Rattle.std.specs.Prelude.{Result}
-use Rattle.std.proofs.lemmas.Option.{IfSome_then}
+use Rattle.std.{specs.Prelude.{Result}, proofs.{Common.{◌≡◌, ◌&&◌, [], ◌∷◌, true, false, refl, rules, subst}, lemmas.Option.{IfSome_then}}}
 use Rattle.rm_base.specs.declared.kinds.Bad.{Bad}
-use Rattle.rm_evidence.specs.Taking.{IsTold}
-use Rattle.rm_evidence.specs.Seen.{IsSeen}
+use Rattle.rm_evidence.specs.{Taking.{IsTold}, Seen.{IsSeen}, Names.{log_name}, Objects.{IsLogObject}}
 use Rattle.rm_evidence.proofs.Seen.{seen-all, seen-object, seen-told}
 use Rattle.rm_machine.specs.Validate.{is_available}
-use Rattle.rm_evidence.specs.Names.{log_name}
-use Rattle.rm_evidence.specs.Objects.{IsLogObject}
 use Rattle.rm_redo.specs.declared.log_file.LogFile.{LogFile}
-use Rattle.rm_step_backup.specs.Logs.{Adds}
-use Rattle.rm_step_backup.specs.declared.looking.Looked.{Looked}
+use Rattle.rm_step_backup.specs.{Logs.{Adds}, declared.looking.Looked.{Looked}}
 use Rattle.rm_step_backup.proofs.Archived.{adds-bad, adds-found, adds-none, counted, keeps-more, not-counted}
 use Rattle.rm_step_backup.proofs.looking.look_at.Goals as goal
 

@@ -1,8 +1,6 @@
 use Rattle.std.proofs.Common.{◌≡◌, ◌∙◌, ◌++◌, List, map, sym, ap, rules, take-append-drop}
 use mathlib.Core.List.{map-append}
-use Rattle.rm_step_backup.specs.Making.{made_by}
-use Rattle.rm_step_backup.specs.declared.making.Made.{Made}
-use Rattle.rm_step_backup.specs.declared.reading.Read.{Read}
+use Rattle.rm_step_backup.specs.{Making.{made_by}, declared.{making.Made.{Made}, reading.Read.{Read}}}
 use Rattle.rm_step_backup.proofs.making.+fn-make_all-join+arg2+fn-make_all-join+arg3+make_all.Goals as goal
 
 pub returns : goal.returns

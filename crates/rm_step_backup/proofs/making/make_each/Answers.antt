@@ -1,10 +1,5 @@
-use Rattle.std.proofs.Common.{◌≡◌, ◌∷◌, map, ap}
-use Rattle.std.proofs.lemmas.List.Elements.{All-rest}
-use Rattle.std.specs.Vec.Iter.{into_iter_items}
-use Rattle.rm_step_backup.specs.Making.{CanMake, made_by}
-use Rattle.rm_step_backup.specs.declared.making.Made.{Made}
-use Rattle.rm_step_backup.specs.declared.reading.Read.{Read}
-use Rattle.rm_step_backup.proofs.Filled.{filled-on}
+use Rattle.std.{specs.Vec.Iter.{into_iter_items}, proofs.{Common.{◌≡◌, ◌∷◌, map, ap}, lemmas.List.Elements.{All-rest}}}
+use Rattle.rm_step_backup.{specs.{Making.{CanMake, made_by}, declared.{making.Made.{Made}, reading.Read.{Read}}}, proofs.Filled.{filled-on}}
 use Rattle.rm_step_backup.proofs.making.make_each.Goals as goal
 
 pub loop-read-preserved : goal.loop-read-preserved

@@ -1,7 +1,5 @@
-use Rattle.std.proofs.Common.{◌≡◌, ◌++◌, All, map}
-use Rattle.std.specs.Vec.Iter.{into_iter_items}
-use Rattle.rm_step_backup.specs.Making.{CanMake, made_by}
-use Rattle.rm_step_backup.proofs.making.make_each.Given as goal
+use Rattle.std.{specs.Vec.Iter.{into_iter_items}, proofs.Common.{◌≡◌, ◌++◌, All, map}}
+use Rattle.rm_step_backup.{specs.Making.{CanMake, made_by}, proofs.making.make_each.Given as goal}
 
 abbrev pub invariant-loop-read : goal.invariant-loop-read
 invariant-loop-read l = record {

@@ -1,11 +1,7 @@
-use Rattle.std.proofs.Common.{◌∙◌, arith, rules}
-use Rattle.std.proofs.lemmas.List.{nil_from_length}
-use Rattle.std.specs.Vec.Iter.{into_iter_items}
+use Rattle.std.{specs.Vec.Iter.{into_iter_items}, proofs.{Common.{◌∙◌, arith, rules}, lemmas.List.{nil_from_length}}}
 use Rattle.rm_channel.specs.Jobs.{lists}
-use Rattle.rm_machine.specs.MadeObjects.{Packed, packed}
-use Rattle.rm_machine.specs.State.{ledger}
-use Rattle.rm_step_backup.proofs.FilesRead.{all-made, reads-can}
-use Rattle.rm_step_backup.proofs.NextMade.{left-end, left-fits, left-on, left-start}
+use Rattle.rm_machine.specs.{MadeObjects.{Packed, packed}, State.{ledger}}
+use Rattle.rm_step_backup.proofs.{FilesRead.{all-made, reads-can}, NextMade.{left-end, left-fits, left-on, left-start}}
 use Rattle.rm_step_backup.proofs.recording.record_all.Goals as goal
 
 pub make_all-requires : goal.make_all-requires

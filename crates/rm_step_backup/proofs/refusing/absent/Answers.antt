@@ -1,7 +1,6 @@
-use Rattle.std.proofs.Common.{rules, tests, ◌≡◌, ◌∙◌, List, Option, Some, find, is_none, ap, sym, ℕ}
 use Rattle.std.specs.Option.{option_and_then, option_map}
-use Rattle.std.proofs.lemmas.Iterator.{YieldsList-from_slice}
-use Rattle.std.proofs.lemmas.Iterator.Search.{find_from_yields_List}
+use Rattle.std.proofs.Common.{rules, tests, ◌≡◌, ◌∙◌, List, Option, Some, find, is_none, ap, sym, ℕ}
+use Rattle.std.proofs.lemmas.Iterator.{YieldsList-from_slice, Search.{find_from_yields_List}}
 use Rattle.rm_machine.specs.State.{on_path}
 use Rattle.rm_step_backup.proofs.refusing.absent.Goals as goal
 

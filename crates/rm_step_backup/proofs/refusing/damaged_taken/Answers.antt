@@ -1,8 +1,5 @@
-use Rattle.std.proofs.Common.{rules, tests, ◌≡◌, ◌∙◌, ◌==◌, List, ap, find}
-use Rattle.std.specs.List.{list_any}
-use Rattle.std.specs.Option.{option_map}
-use Rattle.std.proofs.lemmas.Iterator.{YieldsList-from_slice}
-use Rattle.std.proofs.lemmas.Iterator.Search.{find_from_yields_List}
+use Rattle.std.{specs.{List.{list_any}, Option.{option_map}}, proofs.Common.{rules, tests, ◌≡◌, ◌∙◌, ◌==◌, List, ap, find}}
+use Rattle.std.proofs.lemmas.Iterator.{YieldsList-from_slice, Search.{find_from_yields_List}}
 use Rattle.rm_base.specs.declared.block.BlockId.{BlockId}
 use Rattle.rm_machine.specs.Backup.{taken}
 use Rattle.rm_step_backup.proofs.refusing.damaged_taken.Goals as goal

@@ -1,6 +1,5 @@
 use Rattle.std.proofs.Common.{◌+◌, arith, length}
-use Rattle.rm_live.proofs.Fresh.{fresh-numbers, fresh-only, later-numbers}
-use Rattle.rm_live.specs.Parts.{parts_of}
+use Rattle.rm_live.{specs.Parts.{parts_of}, proofs.Fresh.{fresh-numbers, fresh-only, later-numbers}}
 use Rattle.rm_step_backup.proofs.running.go_live.Goals as goal
 
 pub copy_during-pass-requires-clause-only : goal.copy_during-pass-requires-clause-only

@@ -1,10 +1,7 @@
 use Rattle.std.proofs.Common.{List, All, map, subst, sym}
-use Rattle.rm_machine.specs.MadeSets.{InSet}
-use Rattle.rm_machine.specs.State.{ledger}
+use Rattle.rm_machine.specs.{MadeSets.{InSet}, State.{ledger}}
 use Rattle.rm_piece.specs.Valid.{IsPiece}
-use Rattle.rm_step_backup.specs.Making.{member_of}
-use Rattle.rm_step_backup.specs.declared.reading.FileRead.{FileRead}
-use Rattle.rm_step_backup.proofs.SetMembers.{set-members}
+use Rattle.rm_step_backup.{specs.{Making.{member_of}, declared.reading.FileRead.{FileRead}}, proofs.SetMembers.{set-members}}
 use Rattle.rm_step_backup.proofs.sets.make_set.Goals as goal
 
 pub members_of-requires : goal.members_of-requires

@@ -1,15 +1,9 @@
-use Rattle.std.proofs.Common.{◌∙◌, ◌++◌, ◌∷◌, [], List, ap, length, map, subst, sym}
-use Rattle.std.specs.Vec.Iter.{into_iter_items}
+use Rattle.std.{specs.Vec.Iter.{into_iter_items}, proofs.Common.{◌∙◌, ◌++◌, ◌∷◌, [], List, ap, length, map, subst, sym}}
 use Rattle.rm_base.specs.declared.block.Row.{Row}
-use Rattle.rm_piece.specs.Valid.{IsPiece}
-use Rattle.rm_piece.specs.declared.set.SetFile.{SetFile}
-use Rattle.rm_machine.specs.MadeSets.{InSet, member_by}
-use Rattle.rm_machine.specs.State.{ledger}
-use Rattle.rm_step_backup.specs.Making.{member_of}
-use Rattle.rm_step_backup.specs.declared.making.Told.{Told}
-use Rattle.rm_step_backup.specs.declared.reading.FileRead.{FileRead}
-use Rattle.rm_step_backup.proofs.SetMembers.{made-next, valid-here}
-use Rattle.rm_step_backup.proofs.sets.members_of.Goals as goal
+use Rattle.rm_piece.specs.{Valid.{IsPiece}, declared.set.SetFile.{SetFile}}
+use Rattle.rm_machine.specs.{MadeSets.{InSet, member_by}, State.{ledger}}
+use Rattle.rm_step_backup.specs.{Making.{member_of}, declared.{making.Told.{Told}, reading.FileRead.{FileRead}}}
+use Rattle.rm_step_backup.proofs.{SetMembers.{made-next, valid-here}, sets.members_of.Goals as goal}
 
 pub member_of-requires : goal.member_of-requires
 member_of-requires c =

@@ -1,6 +1,5 @@
 use Rattle.std.proofs.Common.{arith}
-use Rattle.rm_piece.proofs.Fitting.{few_rows}
-use Rattle.rm_piece.proofs.SetFitting.{few_spelled}
+use Rattle.rm_piece.proofs.{Fitting.{few_rows}, SetFitting.{few_spelled}}
 use Rattle.rm_step_backup.proofs.sets.spelled_rows.Goals as goal
 
 pub overflow_cast-result : goal.overflow_cast-result

@@ -1,11 +1,8 @@
 use Rattle.std.proofs.Common.{rules}
 use Rattle.rm_channel.specs.Jobs.{lists}
-use Rattle.rm_machine.specs.Backup.{AreJobs, IsTagBy, named_tag}
-use Rattle.rm_machine.specs.MadeObjects.{CanRecord, packed}
-use Rattle.rm_machine.specs.State.{ledger}
+use Rattle.rm_machine.specs.{Backup.{AreJobs, IsTagBy, named_tag}, MadeObjects.{CanRecord, packed}, State.{ledger}}
 use Rattle.rm_machine.proofs.BackingUp.{per_set-some}
-use Rattle.rm_step_backup.proofs.Backed.{few-told, hands, ran-record, ran-sound, rows-many}
-use Rattle.rm_step_backup.proofs.Forms.{not-cumulative}
+use Rattle.rm_step_backup.proofs.{Backed.{few-told, hands, ran-record, ran-sound, rows-many}, Forms.{not-cumulative}}
 use Rattle.rm_step_backup.proofs.statement.backup.Goals as goal
 
 pub jobs-requires-clause-plain : goal.jobs-requires-clause-plain

@@ -1,21 +1,9 @@
-use Rattle.std.proofs.Common.{◌≤◌, ◌∙◌, List, Vec, ap, sym, subst, length, All}
-use Rattle.std.specs.Global.{Global}
-use Rattle.std.proofs.lemmas.Result.{IfOk-weaker}
-use Rattle.rm_channel.specs.Jobs.{lists}
-use Rattle.rm_channel.specs.Room.{AreThreads, CanWrite, IsThere}
-use Rattle.rm_channel.specs.declared.jobs.WriteJob.{WriteJob}
-use Rattle.rm_machine.specs.Asked.{writes_in}
-use Rattle.rm_machine.specs.Events.{opening}
-use Rattle.rm_machine.specs.Sound.{IsSound}
-use Rattle.rm_machine.specs.declared.job.Job.{Job}
-use Rattle.rm_machine.proofs.BackupAccepted.{can-back_up}
-use Rattle.rm_step_backup.specs.Copying.{AreCopiesOf, Stands}
-use Rattle.rm_machine.specs.Running.{CanFollow}
-use Rattle.rm_step_backup.specs.Running.{HasRunLive}
-use Rattle.rm_step_backup.proofs.Backed.{HasWorked, begun-sound, can-follow}
-use Rattle.rm_machine.proofs.WritersRoom.{fits-numbers}
-use Rattle.rm_step_backup.proofs.Room.{begun-stand, begun-threads, begun-writes}
-use Rattle.rm_step_backup.proofs.statement.run.Goals as goal
+use Rattle.std.{specs.Global.{Global}, proofs.{Common.{◌≤◌, ◌∙◌, List, Vec, ap, sym, subst, length, All}, lemmas.Result.{IfOk-weaker}}}
+use Rattle.rm_channel.specs.{Jobs.{lists}, Room.{AreThreads, CanWrite, IsThere}, declared.jobs.WriteJob.{WriteJob}}
+use Rattle.rm_machine.specs.{Asked.{writes_in}, Events.{opening}, Sound.{IsSound}, Running.{CanFollow}, declared.job.Job.{Job}}
+use Rattle.rm_machine.proofs.{BackupAccepted.{can-back_up}, WritersRoom.{fits-numbers}}
+use Rattle.rm_step_backup.{specs.{Copying.{AreCopiesOf, Stands}, Running.{HasRunLive}}, proofs.Backed.{HasWorked, begun-sound, can-follow}}
+use Rattle.rm_step_backup.proofs.{Room.{begun-stand, begun-threads, begun-writes}, statement.run.Goals as goal}
 
 pub writers_in-requires : goal.writers_in-requires
 writers_in-requires g c = record { fits = fits-numbers c.args.state.now (writes_in c.args.form.now) c.requires.sound (can-back_up c.args.state.now c.args.form.now c.requires.sound c.requires.accepted).writes }

@@ -1,7 +1,6 @@
 use Rattle.std.proofs.Common.{None, map, take}
 use Rattle.rm_machine.specs.declared.job.Job.{Job}
-use Rattle.rm_step_backup.specs.Copying.{StartBelow}
-use Rattle.rm_step_backup.proofs.Copying.{below-all, below-here, switched-next}
+use Rattle.rm_step_backup.{specs.Copying.{StartBelow}, proofs.Copying.{below-all, below-here, switched-next}}
 use Rattle.rm_step_backup.proofs.statement.switch_all.Goals as goal
 
 abbrev no_job : Job

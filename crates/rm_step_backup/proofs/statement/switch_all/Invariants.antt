@@ -1,6 +1,5 @@
 use Rattle.std.proofs.Common.{◌≡◌, map, take}
-use Rattle.rm_machine.specs.Tracked.{switch_all}
-use Rattle.rm_machine.specs.declared.job.Job.{Job}
+use Rattle.rm_machine.specs.{Tracked.{switch_all}, declared.job.Job.{Job}}
 use Rattle.rm_step_backup.proofs.statement.switch_all.Given as goal
 
 abbrev pub invariant-loop-job : goal.invariant-loop-job

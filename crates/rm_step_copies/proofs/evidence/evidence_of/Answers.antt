@@ -1,15 +1,9 @@
-use Rattle.std.proofs.Common.{List, All, subst, sym}
-use Rattle.std.proofs.lemmas.Option.{IfSome_then}
+use Rattle.std.proofs.{Common.{List, All, subst, sym}, lemmas.Option.{IfSome_then}}
 use Rattle.rm_catalog.specs.declared.record.Record.{Record}
-use Rattle.rm_evidence.specs.Gathered.{IsGathered}
-use Rattle.rm_evidence.specs.Known.{AreRecorded, IsRecorded}
-use Rattle.rm_evidence.specs.Place.{FitsPlace}
-use Rattle.rm_evidence.proofs.Fitting.{gathered-recorded, level1s-recorded}
-use Rattle.rm_evidence.proofs.Seen.{seen-so, seen-told}
-use Rattle.rm_machine.specs.Recovery.{in_place}
-use Rattle.rm_machine.proofs.Fitting.{gathered-hand, place-fits}
-use Rattle.rm_step_copies.proofs.Hand.{fits-state, ok-then}
-use Rattle.rm_step_copies.proofs.evidence.evidence_of.Goals as goal
+use Rattle.rm_evidence.specs.{Gathered.{IsGathered}, Known.{AreRecorded, IsRecorded}, Place.{FitsPlace}}
+use Rattle.rm_evidence.proofs.{Fitting.{gathered-recorded, level1s-recorded}, Seen.{seen-so, seen-told}}
+use Rattle.rm_machine.{specs.Recovery.{in_place}, proofs.Fitting.{gathered-hand, place-fits}}
+use Rattle.rm_step_copies.proofs.{Hand.{fits-state, ok-then}, evidence.evidence_of.Goals as goal}
 
 pub gather_by-requires-clause-place : goal.gather_by-requires-clause-place
 gather_by-requires-clause-place g c κs within =

@@ -1,15 +1,10 @@
-use Rattle.std.proofs.Common.{◌≡◌, ◌∙◌, ℕ, List, Option, Some, None, ap, sym, subst}
-use Rattle.std.specs.Prelude.{Result, Ok, Err, IfNone, IfOk}
+use Rattle.std.{specs.Prelude.{Result, Ok, Err, IfNone, IfOk}, proofs.Common.{◌≡◌, ◌∙◌, ℕ, List, Option, Some, None, ap, sym, subst}}
 use Rattle.rm_base.specs.declared.faults.NoMemory.{NoMemory}
-use Rattle.rm_backup.specs.declared.renewing.Renewed.{Renewed}
-use Rattle.rm_backup.specs.Taken.{IsTaken}
-use Rattle.rm_catalog.specs.declared.record.Record.{Record}
-use Rattle.rm_catalog.specs.Trees.{nodes}
+use Rattle.rm_backup.specs.{Taken.{IsTaken}, declared.renewing.Renewed.{Renewed}}
+use Rattle.rm_catalog.specs.{Trees.{nodes}, declared.record.Record.{Record}}
 use Rattle.rm_evidence.specs.Known.{FitsTree}
-use Rattle.rm_machine.specs.RecoverCopy.{HasTaken}
-use Rattle.rm_machine.specs.declared.state.State.{State}
-use Rattle.rm_catalog_typed.specs.TypedCatalog.{records_of}
-use Rattle.rm_catalog_typed.proofs.Records.{tree-told}
+use Rattle.rm_machine.specs.{RecoverCopy.{HasTaken}, declared.state.State.{State}}
+use Rattle.rm_catalog_typed.{specs.TypedCatalog.{records_of}, proofs.Records.{tree-told}}
 use Rattle.rm_step_copies.proofs.renewals.renewal.Goals as goal
 
 pub recover_copy-requires-clause-fits : goal.recover_copy-requires-clause-fits

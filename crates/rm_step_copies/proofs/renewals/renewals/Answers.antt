@@ -1,10 +1,8 @@
 use Rattle.std.proofs.Common.{◌≡◌, ◌∙◌, ◌+◌, ◌∷◌, ◌++◌, [], ℕ, Option, Vec, Global, IfNone, IfSome, length, ap, sym, subst, arith}
-use Rattle.rm_backup.specs.declared.renewing.Renewed.{Renewed}
-use Rattle.rm_backup.specs.Renewed.{IsRenewed}
+use Rattle.rm_backup.specs.{Renewed.{IsRenewed}, declared.renewing.Renewed.{Renewed}}
 use Rattle.rm_machine.specs.RecoverCopy.{HasTaken}
 use Rattle.rm_catalog_typed.specs.TypedCatalog.{records_of}
-use Rattle.rm_step_copies.proofs.Walked.{AreRenewedBelow, below-all, below-more, below-past, below-start}
-use Rattle.rm_step_copies.proofs.renewals.renewals.Goals as goal
+use Rattle.rm_step_copies.proofs.{Walked.{AreRenewedBelow, below-all, below-more, below-past, below-start}, renewals.renewals.Goals as goal}
 use Rattle.rm_step_copies.proofs.renewals.renewals.Goals.{in-Some+in_ok-push, in_default}
 
 pub loop-file-init : goal.loop-file-init

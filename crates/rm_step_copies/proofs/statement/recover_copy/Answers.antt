@@ -1,14 +1,10 @@
-use Rattle.std.proofs.Common.{◌≡◌, ◌∙◌, ◌+◌, ◌++◌, ℕ, List, None, Some, ap, arith, sym}
-use Rattle.std.proofs.lemmas.Bool.{le-ltb}
+use Rattle.std.proofs.{Common.{◌≡◌, ◌∙◌, ◌+◌, ◌++◌, ℕ, List, None, Some, ap, arith, sym}, lemmas.Bool.{le-ltb}}
 use Rattle.rm_commit.specs.declared.commit.Object.{Object}
 use Rattle.rm_machine.specs.Recover.{recover_target}
 use Rattle.rm_machine.specs.RecoverCopy.{AreRenewed, copies_gone, copies_lines, copies_put, copy_refusal_at, renewed_refusal, targetless_refusal}
-use Rattle.rm_machine.specs.Recovery.{skipped_lines}
-use Rattle.rm_machine.specs.State.{current_of, ledger}
+use Rattle.rm_machine.{specs.{Recovery.{skipped_lines}, State.{current_of, ledger}}, proofs.Renewing.{ids-left}}
 use Rattle.rm_report.specs.declared.line.Line.{Line}
-use Rattle.rm_step_copies.proofs.Fit.{all-fit, all-short}
-use Rattle.rm_step_copies.proofs.Handing.{all-dated, leads-on, renew-hands, renew-refused}
-use Rattle.rm_machine.proofs.Renewing.{ids-left}
+use Rattle.rm_step_copies.proofs.{Fit.{all-fit, all-short}, Handing.{all-dated, leads-on, renew-hands, renew-refused}}
 use Rattle.rm_step_copies.proofs.statement.recover_copy.Goals as goal
 
 pub unreachable-requires : goal.unreachable-requires

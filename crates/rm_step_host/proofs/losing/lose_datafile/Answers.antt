@@ -1,10 +1,7 @@
 use Rattle.std.proofs.Common.{[], ◌∷◌, refl}
 use Rattle.rm_report.specs.declared.line.Line.TheVariants.{FileLost}
 use Rattle.rm_lang_statement.specs.declared.command.Command.TheVariants.{LoseDatafile}
-use Rattle.rm_machine.specs.Effect.{no_effect}
-use Rattle.rm_machine.specs.LoseDatafile.{without_file}
-use Rattle.rm_machine.specs.declared.state.State.{State}
-use Rattle.rm_machine.proofs.Handing.{hands-by}
+use Rattle.rm_machine.{specs.{Effect.{no_effect}, LoseDatafile.{without_file}, declared.state.State.{State}}, proofs.Handing.{hands-by}}
 use Rattle.rm_step_host.proofs.losing.lose_datafile.Goals as goal
 
 pub returns-clause-hands : goal.returns-clause-hands

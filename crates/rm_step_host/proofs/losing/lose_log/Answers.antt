@@ -1,13 +1,8 @@
 use Rattle.std.proofs.Common.{[], ◌∷◌, ◌∙◌, refl, ap, sym, subst}
 use Rattle.rm_report.specs.declared.line.Line.TheVariants.{LogLost}
 use Rattle.rm_lang_statement.specs.declared.command.Command.TheVariants.{LoseLog}
-use Rattle.rm_machine.specs.Effect.{no_effect}
-use Rattle.rm_machine.specs.LoseLog.{without_log}
-use Rattle.rm_machine.specs.Mount.{as_mounted}
-use Rattle.rm_machine.specs.Sound.{IsSound}
-use Rattle.rm_machine.specs.declared.state.State.{State}
-use Rattle.rm_machine.proofs.Handing.{hands-by}
-use Rattle.rm_machine.proofs.Mounting.{sound-as_mounted}
+use Rattle.rm_machine.specs.{Effect.{no_effect}, LoseLog.{without_log}, Mount.{as_mounted}, Sound.{IsSound}, declared.state.State.{State}}
+use Rattle.rm_machine.proofs.{Handing.{hands-by}, Mounting.{sound-as_mounted}}
 use Rattle.rm_step_host.proofs.losing.lose_log.Goals as goal
 
 pub lose_thread-requires-clause-sound : goal.lose_thread-requires-clause-sound

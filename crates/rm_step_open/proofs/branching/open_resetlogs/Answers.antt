@@ -2,18 +2,12 @@ use Rattle.std.proofs.Common.{rules, ◌≡◌, ◌∙◌, ◌<◌, ◌+◌, ◌
 use Rattle.rm_lang_statement.specs.declared.command.Command.TheVariants.{OpenResetlogs}
 use Rattle.rm_history.specs.declared.tree.Incarnation.{Incarnation}
 use Rattle.rm_commit.specs.declared.commit.Object.{Object}
-use Rattle.rm_report.specs.declared.line.Line.{Line}
-use Rattle.rm_report.specs.declared.line.Line.TheVariants.{Opened}
-use Rattle.rm_machine.specs.Archive.{after_all, archiving, lines_from, puts_from}
-use Rattle.rm_machine.specs.Effect.{done}
-use Rattle.rm_machine.specs.OpenResetlogs.{branched_off, resetlogs_lines}
-use Rattle.rm_machine.specs.State.{tree}
-use Rattle.rm_machine.specs.declared.state.State.{State}
+use Rattle.rm_report.specs.declared.line.Line.{Line, TheVariants.{Opened}}
+use Rattle.rm_machine.specs.{Archive.{after_all, archiving, lines_from, puts_from}, Effect.{done}}
+use Rattle.rm_machine.specs.{OpenResetlogs.{branched_off, resetlogs_lines}, State.{tree}, declared.state.State.{State}}
+use Rattle.rm_machine.proofs.{Branching.{after-archiving, can-after, can-reset}, Handing.{hands-by}}
 use Rattle.rm_catalog_typed.specs.Fitting.{HasRoomFor}
-use Rattle.rm_machine.proofs.Branching.{after-archiving, can-after, can-reset}
-use Rattle.rm_machine.proofs.Handing.{hands-by}
-use Rattle.rm_step_open.proofs.Spaces.{accepted-alone}
-use Rattle.rm_step_open.proofs.branching.open_resetlogs.Goals as goal
+use Rattle.rm_step_open.proofs.{Spaces.{accepted-alone}, branching.open_resetlogs.Goals as goal}
 
 pub archive_all-requires-clause-accepted : goal.archive_all-requires-clause-accepted
 archive_all-requires-clause-accepted c =

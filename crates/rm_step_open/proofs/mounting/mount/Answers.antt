@@ -1,10 +1,7 @@
 use Rattle.std.proofs.Common.{[], ◌∷◌, refl}
 use Rattle.rm_report.specs.declared.line.Line.TheVariants.{Mounted}
 use Rattle.rm_lang_statement.specs.declared.command.Command.TheVariants.{Mount}
-use Rattle.rm_machine.specs.Effect.{no_effect}
-use Rattle.rm_machine.specs.Mount.{as_mounted}
-use Rattle.rm_machine.specs.declared.state.State.{State}
-use Rattle.rm_machine.proofs.Handing.{hands-by}
+use Rattle.rm_machine.{specs.{Effect.{no_effect}, Mount.{as_mounted}, declared.state.State.{State}}, proofs.Handing.{hands-by}}
 use Rattle.rm_step_open.proofs.mounting.mount.Goals as goal
 
 pub returns-clause-hands : goal.returns-clause-hands

@@ -1,12 +1,8 @@
 use Rattle.std.proofs.Common.{rules, ◌≡◌, ◌∙◌, [], ◌∷◌, ap, refl}
 use Rattle.rm_lang_statement.specs.declared.command.Command.TheVariants.{OpenPlain}
 use Rattle.rm_report.specs.declared.line.Line.TheVariants.{Opened}
-use Rattle.rm_machine.specs.Effect.{no_effect}
-use Rattle.rm_machine.specs.Open.{opened}
-use Rattle.rm_machine.specs.State.{current_of, now_of}
-use Rattle.rm_machine.specs.Tracked.{with_tracker}
-use Rattle.rm_machine.specs.declared.state.State.{State}
-use Rattle.rm_machine.proofs.Handing.{hands-by}
+use Rattle.rm_machine.specs.{Effect.{no_effect}, Open.{opened}, State.{current_of, now_of}, Tracked.{with_tracker}}
+use Rattle.rm_machine.{specs.declared.state.State.{State}, proofs.Handing.{hands-by}}
 use Rattle.rm_step_open.proofs.opening.open.Goals as goal
 
 pub returns-clause-hands : goal.returns-clause-hands

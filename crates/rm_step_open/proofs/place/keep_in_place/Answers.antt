@@ -1,13 +1,9 @@
 use Rattle.std.proofs.Common.{◌≡◌, ◌<◌, ◌+◌, ◌∙◌, ◌++◌, List, Option, None, suc, false, subst, sym, ap, arith, length, get_or, take, drop}
 use Rattle.std.proofs.Math.ListN.{set, length-set}
 use Rattle.rm_blocks.specs.File.{File}
-use Rattle.rm_history.specs.declared.world.Datafile.{Datafile}
-use Rattle.rm_history.specs.declared.world.World.{World}
-use Rattle.rm_history.specs.World.{exists}
-use Rattle.rm_machine.specs.Open.{kept_in_place}
-use Rattle.rm_machine.specs.State.{world}
-use Rattle.rm_step_open.proofs.Places.{kept-stays, kept-goes}
-use Rattle.rm_step_open.proofs.place.keep_in_place.Goals as goal
+use Rattle.rm_history.specs.{World.{exists}, declared.world.{Datafile.{Datafile}, World.{World}}}
+use Rattle.rm_machine.specs.{Open.{kept_in_place}, State.{world}}
+use Rattle.rm_step_open.proofs.{Places.{kept-stays, kept-goes}, place.keep_in_place.Goals as goal}
 use Rattle.rm_step_open.proofs.place.keep_in_place.Goals.{then-not-exists+in-Some-1, then-not-exists+in-None-1, else-not-exists}
 
 abbrev any : Datafile

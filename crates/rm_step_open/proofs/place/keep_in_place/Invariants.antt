@@ -1,6 +1,5 @@
 use Rattle.std.proofs.Common.{◌≡◌, ◌++◌, length, take, drop}
-use Rattle.rm_machine.specs.Open.{kept_in_place}
-use Rattle.rm_machine.specs.State.{ledger, world}
+use Rattle.rm_machine.specs.{Open.{kept_in_place}, State.{ledger, world}}
 use Rattle.rm_step_open.proofs.place.keep_in_place.Given as goal
 
 abbrev pub invariant-loop-index : goal.invariant-loop-index

@@ -1,11 +1,7 @@
-use Rattle.std.proofs.Common.{rules, refl}
+use Rattle.std.{specs.Prelude.{[], ◌∷◌}, proofs.Common.{rules, refl}}
 use Rattle.rm_lang_statement.specs.declared.command.Command.TheVariants.{ResetDatabase}
 use Rattle.rm_report.specs.declared.line.Line.TheVariants.{Chosen}
-use Rattle.std.specs.Prelude.{[], ◌∷◌}
-use Rattle.rm_machine.specs.Effect.{no_effect}
-use Rattle.rm_machine.specs.ResetDatabase.{at_incarnation}
-use Rattle.rm_machine.specs.declared.state.State.{State}
-use Rattle.rm_machine.proofs.Handing.{hands-by}
+use Rattle.rm_machine.{specs.{Effect.{no_effect}, ResetDatabase.{at_incarnation}, declared.state.State.{State}}, proofs.Handing.{hands-by}}
 use Rattle.rm_step_open.proofs.resetting.reset_database.Goals as goal
 
 pub returns-clause-hands : goal.returns-clause-hands

@@ -2,22 +2,12 @@ use Rattle.std.proofs.Common.{◌≡◌, ◌<◌, ◌∙◌, ◌++◌, [], ◌�
 use Rattle.rm_base.specs.Numbers.{last_scn}
 use Rattle.rm_commit.specs.declared.commit.Object.{Object}
 use Rattle.rm_lang_statement.specs.declared.command.Command.TheVariants.{SwitchThread}
-use Rattle.rm_report.specs.declared.line.Line.{Line}
-use Rattle.rm_report.specs.declared.line.Line.TheVariants.{ThreadSwitched}
-use Rattle.rm_catalog_typed.specs.Fitting.{FitsSwitch}
-use Rattle.rm_catalog_typed.specs.TypedCatalog.{TypedCatalog}
-use Rattle.rm_catalog_typed.specs.declared.thread_switch.ThreadSwitch.{ThreadSwitch}
-use Rattle.rm_machine.specs.Archive.{puts_by, thread_lines}
-use Rattle.rm_machine.specs.DisableThread.{disabled_lines, disabling, switch_off, with_thread_off}
-use Rattle.rm_machine.specs.Marks.{lacks_room, marks_before, one_further}
-use Rattle.rm_machine.specs.Sound.{IsSound}
-use Rattle.rm_machine.specs.State.{now_of}
-use Rattle.rm_machine.specs.declared.state.State.{State}
-use Rattle.rm_machine.proofs.Disabling.{accepted, after-due, can-archive, can-disable, disabling-fits}
-use Rattle.rm_machine.proofs.Handing.{hands-by}
-use Rattle.rm_step_open.proofs.Disabling.{after-disable, can-close, room-after}
-use Rattle.rm_step_open.proofs.Spaces.{space-can}
-use Rattle.rm_step_open.proofs.threads.disable_thread.Goals as goal
+use Rattle.rm_report.specs.declared.line.Line.{Line, TheVariants.{ThreadSwitched}}
+use Rattle.rm_catalog_typed.specs.{Fitting.{FitsSwitch}, TypedCatalog.{TypedCatalog}, declared.thread_switch.ThreadSwitch.{ThreadSwitch}}
+use Rattle.rm_machine.specs.{Archive.{puts_by, thread_lines}, DisableThread.{disabled_lines, disabling, switch_off, with_thread_off}}
+use Rattle.rm_machine.specs.{Marks.{lacks_room, marks_before, one_further}, Sound.{IsSound}, State.{now_of}, declared.state.State.{State}}
+use Rattle.rm_machine.proofs.{Disabling.{accepted, after-due, can-archive, can-disable, disabling-fits}, Handing.{hands-by}}
+use Rattle.rm_step_open.proofs.{Disabling.{after-disable, can-close, room-after}, Spaces.{space-can}, threads.disable_thread.Goals as goal}
 
 pub switch_off-switch-requires-clause-thread : goal.switch_off-switch-requires-clause-thread
 switch_off-switch-requires-clause-thread c = (accepted c.args.state.now c.args.thread c.requires.sound c.requires.accepted).there

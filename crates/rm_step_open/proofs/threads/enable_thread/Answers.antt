@@ -1,17 +1,10 @@
 use Rattle.std.proofs.Common.{◌∙◌, [], ◌∷◌, true, ap, refl, sym, subst}
 use Rattle.rm_lang_statement.specs.declared.command.Command.TheVariants.{SwitchThread}
 use Rattle.rm_report.specs.declared.line.Line.TheVariants.{ThreadSwitched}
-use Rattle.rm_catalog_typed.specs.Fitting.{FitsSwitch}
-use Rattle.rm_catalog_typed.specs.TypedCatalog.{TypedCatalog}
-use Rattle.rm_catalog_typed.specs.declared.thread_switch.ThreadSwitch.{ThreadSwitch}
-use Rattle.rm_machine.specs.Effect.{no_effect}
-use Rattle.rm_machine.specs.EnableThread.{switch_on, with_thread_on}
-use Rattle.rm_machine.specs.State.{now_of}
-use Rattle.rm_machine.specs.declared.state.State.{State}
-use Rattle.rm_machine.proofs.Enabling.{enabling-fits}
-use Rattle.rm_machine.proofs.Handing.{hands-by}
-use Rattle.rm_step_open.proofs.Enabling.{after-enable, can-begin}
-use Rattle.rm_step_open.proofs.threads.enable_thread.Goals as goal
+use Rattle.rm_catalog_typed.specs.{Fitting.{FitsSwitch}, TypedCatalog.{TypedCatalog}, declared.thread_switch.ThreadSwitch.{ThreadSwitch}}
+use Rattle.rm_machine.specs.{Effect.{no_effect}, EnableThread.{switch_on, with_thread_on}, State.{now_of}, declared.state.State.{State}}
+use Rattle.rm_machine.proofs.{Enabling.{enabling-fits}, Handing.{hands-by}}
+use Rattle.rm_step_open.proofs.{Enabling.{after-enable, can-begin}, threads.enable_thread.Goals as goal}
 
 pub add_switch-requires : goal.add_switch-requires
 add_switch-requires c =

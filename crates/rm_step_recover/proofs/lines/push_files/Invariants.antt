@@ -1,6 +1,5 @@
 use Rattle.std.proofs.Common.{◌≡◌, ◌++◌, drop}
-use Rattle.rm_machine.specs.RecoverTest.{files_lines}
-use Rattle.rm_machine.specs.State.{world}
+use Rattle.rm_machine.specs.{RecoverTest.{files_lines}, State.{world}}
 use Rattle.rm_step_recover.proofs.lines.push_files.Given as goal
 
 abbrev pub invariant-loop-file : goal.invariant-loop-file

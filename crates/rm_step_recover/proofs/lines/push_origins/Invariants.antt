@@ -1,6 +1,4 @@
-use Rattle.std.proofs.Common.{◌≡◌, ◌++◌}
-use Rattle.std.specs.Iterator.Adapters.{zip_first, zip_second}
-use Rattle.std.specs.Slice.Iter.{iter_rest}
+use Rattle.std.{specs.{Iterator.Adapters.{zip_first, zip_second}, Slice.Iter.{iter_rest}}, proofs.Common.{◌≡◌, ◌++◌}}
 use Rattle.rm_machine.specs.Restore.{origin_lines}
 use Rattle.rm_step_recover.proofs.lines.push_origins.Given as goal
 

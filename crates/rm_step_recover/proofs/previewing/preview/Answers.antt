@@ -1,18 +1,12 @@
 use Rattle.std.proofs.Common.{◌≡◌, ◌∙◌, ◌++◌, ◌∷◌, [], ℕ, List, None, ap, subst, sym}
-use Rattle.rm_apply.specs.declared.origin.Origin.{Origin}
-use Rattle.rm_apply.specs.Preview.{Previews}
+use Rattle.rm_apply.specs.{Preview.{Previews}, Recover.{until_in}, declared.origin.Origin.{Origin}}
 use Rattle.rm_base.specs.declared.kinds.Bad.{Bad}
-use Rattle.rm_apply.specs.Recover.{until_in}
 use Rattle.rm_catalog.specs.declared.record.BaseEntry.{BaseEntry}
 use Rattle.rm_history.specs.Tree.{IsThere}
-use Rattle.rm_machine.specs.Recovery.{in_place, range_refusal, skipped_lines}
-use Rattle.rm_machine.specs.Restore.{gap_line, origin_lines}
-use Rattle.rm_machine.specs.State.{current_of, tree}
+use Rattle.rm_machine.specs.{Recovery.{in_place, range_refusal, skipped_lines}, Restore.{gap_line, origin_lines}, State.{current_of, tree}}
 use Rattle.rm_catalog_typed.specs.TypedCatalog.{records_of}
-use Rattle.rm_step_recover.proofs.Dates.{previewed-dated}
-use Rattle.rm_step_recover.proofs.Handing.{preview-tells}
-use Rattle.rm_step_recover.proofs.Records.{exact-numbers, fits, of-state, preview-within, there, within}
-use Rattle.rm_step_recover.proofs.previewing.preview.Goals as goal
+use Rattle.rm_step_recover.proofs.{Dates.{previewed-dated}, Handing.{preview-tells}}
+use Rattle.rm_step_recover.proofs.{Records.{exact-numbers, fits, of-state, preview-within, there, within}, previewing.preview.Goals as goal}
 
 pub preview_from-requires-clause-place : goal.preview_from-requires-clause-place
 preview_from-requires-clause-place g c κs within =

@@ -1,13 +1,8 @@
 use Rattle.std.proofs.Common.{◌∙◌, ◌++◌, ◌∷◌, [], ap, length, subst, sym}
 use Rattle.rm_catalog.specs.declared.record.BaseEntry.{BaseEntry}
-use Rattle.rm_machine.specs.Recovery.{skipped_lines}
-use Rattle.rm_machine.specs.Sound.{IsSound}
-use Rattle.rm_machine.specs.State.{current_of}
+use Rattle.rm_machine.specs.{Recovery.{skipped_lines}, Sound.{IsSound}, State.{current_of}}
 use Rattle.rm_report.specs.declared.line.Line.TheVariants.{Recovered}
-use Rattle.rm_step_recover.proofs.Dates.{recovered-dated}
-use Rattle.rm_step_recover.proofs.Files.{told-places}
-use Rattle.rm_step_recover.proofs.Handing.{recover-hands, told-at}
-use Rattle.rm_step_recover.proofs.Sound.{recover-sound}
+use Rattle.rm_step_recover.proofs.{Dates.{recovered-dated}, Files.{told-places}, Handing.{recover-hands, told-at}, Sound.{recover-sound}}
 use Rattle.rm_step_recover.proofs.recovery.recover.Goals as goal
 
 pub put_in_place-requires : goal.put_in_place-requires

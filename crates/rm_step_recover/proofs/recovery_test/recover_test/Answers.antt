@@ -1,10 +1,7 @@
 use Rattle.std.proofs.Common.{List, All, refl, subst, sym}
 use Rattle.rm_blocks.specs.File.{File}
 use Rattle.rm_machine.specs.State.{world}
-use Rattle.rm_step_recover.specs.Lines.{HasLines}
-use Rattle.rm_step_recover.proofs.Dates.{tested-dated}
-use Rattle.rm_step_recover.proofs.Files.{told-lines}
-use Rattle.rm_step_recover.proofs.Handing.{told-at}
+use Rattle.rm_step_recover.{specs.Lines.{HasLines}, proofs.{Dates.{tested-dated}, Files.{told-lines}, Handing.{told-at}}}
 use Rattle.rm_step_recover.proofs.recovery_test.recover_test.Goals as goal
 
 pub push_test-requires-clause-each : goal.push_test-requires-clause-each

@@ -1,5 +1,4 @@
-use Rattle.std.proofs.Common.{◌≡◌, ◌∙◌, rules, List, ap, filter, not}
-use Rattle.std.proofs.lemmas.Fn.{filter_same}
+use Rattle.std.proofs.{Common.{◌≡◌, ◌∙◌, rules, List, ap, filter, not}, lemmas.Fn.{filter_same}}
 use Rattle.rm_base.specs.declared.block.BlockId.{BlockId}
 use Rattle.rm_machine.specs.BlockRecover.{asks_for}
 use Rattle.rm_step_repair.proofs.blocks.take_off.Goals as goal

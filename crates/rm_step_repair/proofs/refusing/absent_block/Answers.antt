@@ -1,6 +1,4 @@
-use Rattle.std.proofs.Common.{rules, tests, ◌≡◌, ◌∙◌, ℕ, nat_le}
-use Rattle.std.specs.Option.{option_map}
-use Rattle.std.proofs.lemmas.Iterator.{YieldsList-from_slice}
+use Rattle.std.{specs.Option.{option_map}, proofs.{Common.{rules, tests, ◌≡◌, ◌∙◌, ℕ, nat_le}, lemmas.Iterator.{YieldsList-from_slice}}}
 use Rattle.std.proofs.lemmas.Iterator.Search.{find_from_yields_List}
 use Rattle.rm_step_repair.proofs.refusing.absent_block.Goals as goal
 

@@ -1,5 +1,4 @@
-use Rattle.std.proofs.Common.{◌≡◌, ◌∙◌, Some, ap, find, nat_le, sym}
-use Rattle.std.specs.Option.{option_map, option_map_or}
+use Rattle.std.{specs.Option.{option_map, option_map_or}, proofs.Common.{◌≡◌, ◌∙◌, Some, ap, find, nat_le, sym}}
 use Rattle.rm_base.specs.declared.refusal.Absent.TheVariants as absent
 use Rattle.rm_history.specs.declared.world.Datafile.{Datafile}
 use Rattle.rm_machine.specs.State.{on_path}

@@ -1,7 +1,5 @@
-use Rattle.std.proofs.Common.{rules, tests, ◌≡◌, ◌∙◌, ℕ, ap, find, not}
-use Rattle.std.specs.Option.{option_map}
-use Rattle.std.proofs.lemmas.Iterator.{YieldsList-from_slice}
-use Rattle.std.proofs.lemmas.Iterator.Search.{find_from_yields_List}
+use Rattle.std.{specs.Option.{option_map}, proofs.Common.{rules, tests, ◌≡◌, ◌∙◌, ℕ, ap, find, not}}
+use Rattle.std.proofs.lemmas.Iterator.{YieldsList-from_slice, Search.{find_from_yields_List}}
 use Rattle.rm_machine.specs.Damage.{has_block}
 use Rattle.rm_step_repair.proofs.refusing.sound_named.Goals as goal
 

@@ -1,18 +1,11 @@
 use Rattle.std.proofs.Common.{◌∙◌, ◌++◌, ap, map, sym, subst, All}
 use Rattle.rm_channel.specs.Jobs.{lists}
-use Rattle.rm_machine.specs.Asked.{writers_in}
-use Rattle.rm_machine.specs.BackupOutcome.{write_lines}
-use Rattle.rm_machine.specs.BlockRecover.{repair_begun}
-use Rattle.rm_machine.specs.Events.{opening}
-use Rattle.rm_machine.specs.Recovery.{skipped_lines}
-use Rattle.rm_machine.specs.State.{now_of}
-use Rattle.rm_machine.proofs.RepairAccepted.{can-repair}
+use Rattle.rm_machine.specs.{Asked.{writers_in}, BackupOutcome.{write_lines}, BlockRecover.{repair_begun}, Events.{opening}}
+use Rattle.rm_machine.{specs.{Recovery.{skipped_lines}, State.{now_of}}, proofs.RepairAccepted.{can-repair}}
 use Rattle.rm_repair.specs.Mended.{HasBlock, IsOlder}
-use Rattle.rm_step_repair.specs.Gone.{HasRepaired}
-use Rattle.rm_step_repair.specs.Told.{IsTargetNow, mended_line}
+use Rattle.rm_step_repair.specs.{Gone.{HasRepaired}, Told.{IsTargetNow, mended_line}}
 use Rattle.rm_step_repair.proofs.Handing.{few-told, left-sound, repair-hands, run-older, run-there}
-use Rattle.rm_step_repair.proofs.Mends.{all-dated, in-place-targets, mended-stand}
-use Rattle.rm_step_repair.proofs.statement.block_recover.Goals as goal
+use Rattle.rm_step_repair.proofs.{Mends.{all-dated, in-place-targets, mended-stand}, statement.block_recover.Goals as goal}
 
 pub tell_blocks-requires-clause-there : goal.tell_blocks-requires-clause-there
 tell_blocks-requires-clause-there g c κs within =

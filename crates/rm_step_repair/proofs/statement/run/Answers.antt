@@ -1,11 +1,6 @@
-use Rattle.std.proofs.Common.{◌∙◌, ap, All}
-use Rattle.std.specs.Prelude.{IfOk}
-use Rattle.rm_channel.specs.Jobs.{lists}
-use Rattle.rm_channel.specs.Room.{AreThreads, CanWrite}
-use Rattle.rm_machine.specs.Events.{opening}
-use Rattle.rm_machine.specs.Running.{CanFollow}
-use Rattle.rm_machine.specs.Sound.{IsSound}
-use Rattle.rm_machine.proofs.RepairAccepted.{can-repair}
+use Rattle.std.{specs.Prelude.{IfOk}, proofs.Common.{◌∙◌, ap, All}}
+use Rattle.rm_channel.specs.{Jobs.{lists}, Room.{AreThreads, CanWrite}}
+use Rattle.rm_machine.{specs.{Events.{opening}, Running.{CanFollow}, Sound.{IsSound}}, proofs.RepairAccepted.{can-repair}}
 use Rattle.rm_repair.specs.Mended.{HasBlock, IsOlder}
 use Rattle.rm_step_repair.specs.Gone.{HasRepaired}
 use Rattle.rm_step_repair.proofs.Begun.{asked-fit, begun-follow, begun-opening, begun-sound, begun-threads, begun-writes}

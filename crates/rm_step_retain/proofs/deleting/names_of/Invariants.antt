@@ -1,5 +1,4 @@
-use Rattle.std.proofs.Common.{◌≡◌, take}
-use Rattle.std.specs.List.{flat_map}
+use Rattle.std.{specs.List.{flat_map}, proofs.Common.{◌≡◌, take}}
 use Rattle.rm_machine.specs.Upkeep.{names_at}
 use Rattle.rm_step_retain.proofs.deleting.names_of.Given as goal
 

@@ -1,6 +1,5 @@
 use Rattle.std.proofs.Common.{◌≤◌, ◌+◌, length}
-use Rattle.rm_apply.specs.Files.{AreExactly}
-use Rattle.rm_apply.proofs.Numbers.{Below}
+use Rattle.rm_apply.{specs.Files.{AreExactly}, proofs.Numbers.{Below}}
 use Rattle.rm_machine.specs.Obsolete.{NeedsBackup, retention_of}
 use Rattle.rm_step_retain.proofs.needing.in_need.Given as goal
 

@@ -1,6 +1,4 @@
-use Rattle.std.proofs.Common.{◌≡◌, ◌++◌}
-use Rattle.std.specs.List.{flat_map}
-use Rattle.std.specs.Vec.Iter.{into_iter_items}
+use Rattle.std.{specs.{List.{flat_map}, Vec.Iter.{into_iter_items}}, proofs.Common.{◌≡◌, ◌++◌}}
 use Rattle.rm_step_tell.proofs.listing.lines_of.Given as goal
 
 abbrev pub invariant-loop-more : goal.invariant-loop-more

@@ -1,12 +1,7 @@
-use Rattle.std.proofs.Common.{◌≡◌, All, List}
-use Rattle.std.specs.List.{flat_map}
-use Rattle.std.proofs.lemmas.Result.{IfOk-weaker}
-use Rattle.rm_machine.specs.Effect.{told}
-use Rattle.rm_machine.specs.Lists.{IsListOutcome}
-use Rattle.rm_report.specs.Reply.{IsPlain}
-use Rattle.rm_report.specs.declared.line.Line.{Line}
-use Rattle.rm_step_tell.proofs.Listed.{dated, lists}
-use Rattle.rm_step_tell.proofs.listing.list.Goals as goal
+use Rattle.std.{specs.List.{flat_map}, proofs.{Common.{◌≡◌, All, List}, lemmas.Result.{IfOk-weaker}}}
+use Rattle.rm_machine.specs.{Effect.{told}, Lists.{IsListOutcome}}
+use Rattle.rm_report.specs.{Reply.{IsPlain}, declared.line.Line.{Line}}
+use Rattle.rm_step_tell.proofs.{Listed.{dated, lists}, listing.list.Goals as goal}
 
 pub returns-clause-lists : goal.returns-clause-lists
 returns-clause-lists c =

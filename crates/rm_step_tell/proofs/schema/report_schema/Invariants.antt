@@ -1,6 +1,5 @@
 use Rattle.std.proofs.Common.{◌≡◌, ◌++◌, ◌+◌, drop}
-use Rattle.rm_machine.specs.Shown.{schema_lines}
-use Rattle.rm_machine.specs.State.{ledger}
+use Rattle.rm_machine.specs.{Shown.{schema_lines}, State.{ledger}}
 use Rattle.rm_step_tell.proofs.schema.report_schema.Given as goal
 
 abbrev pub invariant-loop-index : goal.invariant-loop-index

@@ -1,7 +1,5 @@
-use Rattle.std.proofs.Common.{◌≡◌, ◌∙◌, ◌∷◌, [], ℕ, None, Some, ap, subst, sym}
-use Rattle.std.specs.Prelude.{IfNone, IfSome}
-use Rattle.rm_machine.specs.CatalogName.{IsNamed, catalog_by}
-use Rattle.rm_machine.specs.Sound.{IsSound}
+use Rattle.std.{specs.Prelude.{IfNone, IfSome}, proofs.Common.{◌≡◌, ◌∙◌, ◌∷◌, [], ℕ, None, Some, ap, subst, sym}}
+use Rattle.rm_machine.specs.{CatalogName.{IsNamed, catalog_by}, Sound.{IsSound}}
 use Rattle.rm_report.specs.declared.line.Line.TheVariants.{Catalogued}
 use Rattle.rm_step_upkeep.specs.Catalogued.{Finds, IsOf, refusal_by}
 use Rattle.rm_step_upkeep.proofs.Recorded.{absent-refused, asked-ids, can-be-recorded, found-hands, found-refused, recorded-sound, unnamed-refused}

@@ -1,11 +1,8 @@
 use Rattle.std.proofs.Common.{[], ◌∷◌, ◌∙◌, ap, refl, subst}
 use Rattle.rm_report.specs.declared.line.Line.{Line}
 use Rattle.rm_lang_statement.specs.declared.command.Command.TheVariants.{ChangeBackup}
-use Rattle.rm_machine.specs.Effect.{no_effect}
-use Rattle.rm_machine.specs.Hands.{Hands}
-use Rattle.rm_machine.specs.Upkeep.{change_line, changed_to, with_catalog}
-use Rattle.rm_machine.specs.declared.state.State.{State}
-use Rattle.rm_machine.proofs.Handing.{hands-by}
+use Rattle.rm_machine.specs.{Effect.{no_effect}, Hands.{Hands}, Upkeep.{change_line, changed_to, with_catalog}}
+use Rattle.rm_machine.{specs.declared.state.State.{State}, proofs.Handing.{hands-by}}
 use Rattle.rm_step_upkeep.proofs.changing.change_backup.Goals as goal
 
 pub returns-clause-hands : goal.returns-clause-hands

@@ -1,12 +1,9 @@
 use Rattle.std.proofs.Common.{◌∙◌, List, [], ℕ, ap, map}
 use Rattle.rm_base.specs.declared.kinds.Status.{Status}
-use Rattle.rm_evidence.specs.Gathered.{Lists}
-use Rattle.rm_evidence.proofs.Seen.{seen-told}
+use Rattle.rm_evidence.{specs.Gathered.{Lists}, proofs.Seen.{seen-told}}
 use Rattle.rm_verify.specs.Crosscheck.{IsChecked, stands_in}
-use Rattle.rm_machine.specs.Upkeep.{with_catalog, with_statuses}
-use Rattle.rm_machine.specs.declared.state.State.{State}
-use Rattle.rm_step_upkeep.specs.Lines.{status_line}
-use Rattle.rm_step_upkeep.proofs.Checked.{checked-dated, checked-hands}
+use Rattle.rm_machine.specs.{Upkeep.{with_catalog, with_statuses}, declared.state.State.{State}}
+use Rattle.rm_step_upkeep.{specs.Lines.{status_line}, proofs.Checked.{checked-dated, checked-hands}}
 use Rattle.rm_step_upkeep.proofs.crosschecking.crosscheck.Goals as goal
 
 pub returns-clause-hands : goal.returns-clause-hands

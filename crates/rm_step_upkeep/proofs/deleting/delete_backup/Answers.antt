@@ -1,11 +1,8 @@
 use Rattle.std.proofs.Common.{rules, [], ◌∷◌, ◌≡◌, refl, subst}
 use Rattle.rm_report.specs.declared.line.Line.TheVariants.{Deleted, DeletedCount}
 use Rattle.rm_lang_statement.specs.declared.command.Command.TheVariants.{DeleteBackup}
-use Rattle.rm_machine.specs.Hands.{Hands}
-use Rattle.rm_machine.specs.Upkeep.{names_at, removing, with_catalog, without_record}
-use Rattle.rm_machine.specs.declared.handed.Handed.{Handed}
-use Rattle.rm_machine.specs.declared.state.State.{State}
-use Rattle.rm_machine.proofs.Handing.{hands-by}
+use Rattle.rm_machine.specs.{Hands.{Hands}, Upkeep.{names_at, removing, with_catalog, without_record}, declared.handed.Handed.{Handed}}
+use Rattle.rm_machine.{specs.declared.state.State.{State}, proofs.Handing.{hands-by}}
 use Rattle.rm_step_upkeep.proofs.deleting.delete_backup.Goals as goal
 
 pub returns-clause-hands : goal.returns-clause-hands

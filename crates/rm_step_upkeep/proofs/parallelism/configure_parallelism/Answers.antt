@@ -1,12 +1,8 @@
 use Rattle.std.proofs.Common.{[], ◌∷◌, refl, subst}
 use Rattle.rm_report.specs.declared.line.Line.TheVariants as line
 use Rattle.rm_lang_statement.specs.declared.command.Command.TheVariants.{Parallelism}
-use Rattle.rm_machine.specs.Configure.{with_channels}
-use Rattle.rm_machine.specs.Effect.{no_effect}
-use Rattle.rm_machine.specs.Hands.{Hands}
-use Rattle.rm_machine.specs.Upkeep.{with_catalog}
-use Rattle.rm_machine.specs.declared.state.State.{State}
-use Rattle.rm_machine.proofs.Handing.{hands-by}
+use Rattle.rm_machine.specs.{Configure.{with_channels}, Effect.{no_effect}, Hands.{Hands}, Upkeep.{with_catalog}}
+use Rattle.rm_machine.{specs.declared.state.State.{State}, proofs.Handing.{hands-by}}
 use Rattle.rm_step_upkeep.proofs.parallelism.configure_parallelism.Goals as goal
 
 pub returns-clause-hands : goal.returns-clause-hands

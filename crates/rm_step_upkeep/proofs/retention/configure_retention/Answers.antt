@@ -2,10 +2,7 @@ use Rattle.std.proofs.Common.{◌∙◌, [], ◌∷◌, ap, refl}
 use Rattle.rm_base.specs.declared.kinds.Policy.{Policy}
 use Rattle.rm_report.specs.declared.line.Line.TheVariants as line
 use Rattle.rm_lang_statement.specs.declared.command.Command.TheVariants.{Retention}
-use Rattle.rm_machine.specs.Configure.{policy_of, with_policy}
-use Rattle.rm_machine.specs.Effect.{no_effect}
-use Rattle.rm_machine.specs.Upkeep.{with_catalog}
-use Rattle.rm_machine.specs.declared.state.State.{State}
+use Rattle.rm_machine.specs.{Configure.{policy_of, with_policy}, Effect.{no_effect}, Upkeep.{with_catalog}, declared.state.State.{State}}
 use Rattle.rm_machine.proofs.Handing.{hands-by}
 use Rattle.rm_step_upkeep.proofs.retention.configure_retention.Goals as goal
 

@@ -1,12 +1,8 @@
 use Rattle.std.proofs.Common.{◌∙◌, [], ◌∷◌, ap, refl}
 use Rattle.rm_report.specs.declared.line.Line.TheVariants as line
 use Rattle.rm_lang_statement.specs.declared.command.Command.TheVariants.{Tracking}
-use Rattle.rm_machine.specs.Effect.{no_effect}
-use Rattle.rm_machine.specs.State.{ledger}
-use Rattle.rm_machine.specs.Tracked.{first_tracker, with_tracker}
-use Rattle.rm_machine.specs.Tracking.{with_tracking}
-use Rattle.rm_machine.specs.declared.state.State.{State}
-use Rattle.rm_machine.proofs.Handing.{hands-by}
+use Rattle.rm_machine.specs.{Effect.{no_effect}, State.{ledger}, Tracked.{first_tracker, with_tracker}, Tracking.{with_tracking}}
+use Rattle.rm_machine.{specs.declared.state.State.{State}, proofs.Handing.{hands-by}}
 use Rattle.rm_step_upkeep.proofs.tracking.track_changes.Goals as goal
 
 pub returns-clause-hands : goal.returns-clause-hands

@@ -1,17 +1,11 @@
 use Rattle.std.proofs.Common.{ℕ, ◌≡◌, ◌∙◌, [], ◌∷◌, ap, refl, sym, subst}
 use Rattle.rm_lang_statement.specs.declared.command.Command.TheVariants.{CreateDatafile}
 use Rattle.rm_history.specs.declared.world.Datafile.{Datafile}
-use Rattle.rm_catalog_typed.specs.Fitting.{FitsFile}
-use Rattle.rm_catalog_typed.specs.TypedCatalog.{TypedCatalog}
-use Rattle.rm_machine.specs.CreateDatafile.{new_datafile, next_file, with_datafile}
-use Rattle.rm_machine.specs.Effect.{no_effect}
-use Rattle.rm_machine.specs.State.{now_of}
-use Rattle.rm_machine.specs.declared.state.State.{State}
-use Rattle.rm_machine.proofs.AddingDatafile.{datafile-fits, has-room}
-use Rattle.rm_machine.proofs.Handing.{hands-by}
+use Rattle.rm_catalog_typed.specs.{Fitting.{FitsFile}, TypedCatalog.{TypedCatalog}}
+use Rattle.rm_machine.specs.{CreateDatafile.{new_datafile, next_file, with_datafile}, Effect.{no_effect}, State.{now_of}}
+use Rattle.rm_machine.{specs.declared.state.State.{State}, proofs.{AddingDatafile.{datafile-fits, has-room}, Handing.{hands-by}}}
 use Rattle.rm_report.specs.declared.line.Line.TheVariants.{DatafileAt}
-use Rattle.rm_step_write.proofs.Results.{after-datafile}
-use Rattle.rm_step_write.proofs.creating.create_datafile.Goals as goal
+use Rattle.rm_step_write.proofs.{Results.{after-datafile}, creating.create_datafile.Goals as goal}
 
 pub add_file-requires : goal.add_file-requires
 add_file-requires c =

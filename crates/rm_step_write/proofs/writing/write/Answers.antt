@@ -1,19 +1,12 @@
-use Rattle.std.proofs.Common.{◌<◌, ◌-◌, ◌∙◌, List, [], ◌∷◌, Option, None, ap, refl, sym, subst, slice_get, slice_index_or}
 use Rattle.std.specs.Prelude.{IfSome}
+use Rattle.std.proofs.Common.{◌<◌, ◌-◌, ◌∙◌, List, [], ◌∷◌, Option, None, ap, refl, sym, subst, slice_get, slice_index_or}
 use Rattle.rm_base.specs.declared.block.Change.{Change}
 use Rattle.rm_blocks.specs.File.{File}
 use Rattle.rm_lang_statement.specs.declared.command.Command.TheVariants.{Write}
-use Rattle.rm_machine.specs.Effect.{no_effect}
-use Rattle.rm_machine.specs.declared.state.Instance.{Instance}
-use Rattle.rm_machine.specs.declared.state.State.{State}
-use Rattle.rm_machine.specs.State.{now_of}
-use Rattle.rm_machine.specs.Write.{change_of, with_write}
-use Rattle.rm_machine.proofs.Handing.{hands-by}
-use Rattle.rm_machine.proofs.Writes.{write-accepted}
+use Rattle.rm_machine.specs.{Effect.{no_effect}, State.{now_of}, Write.{change_of, with_write}, declared.state.Instance.{Instance}}
+use Rattle.rm_machine.{specs.declared.state.State.{State}, proofs.{Handing.{hands-by}, Writes.{write-accepted}}}
 use Rattle.rm_report.specs.declared.line.Line.TheVariants.{Written}
-use Rattle.rm_step_write.proofs.Accepted.{can-append, rows-below, write-numbers}
-use Rattle.rm_step_write.proofs.Results.{after-write}
-use Rattle.rm_step_write.proofs.writing.write.Goals as goal
+use Rattle.rm_step_write.proofs.{Accepted.{can-append, rows-below, write-numbers}, Results.{after-write}, writing.write.Goals as goal}
 
 abbrev IsAbove : List (Option File) → Change → Type 0
 IsAbove place c = IfSome (slice_index_or place (c.file - 1) None) (λ x. IfSome (slice_get x.rows c.block) (λ r. r.version < c.scn))

@@ -1,10 +1,6 @@
-use Rattle.std.proofs.Common.{◌≡◌, ◌∙◌, rules, ap, sym, subst, map}
+use Rattle.std.{specs.{Map.Iter.{deref}, BTreeMap.{keys}, String.{string_bytes}}, proofs.Common.{◌≡◌, ◌∙◌, rules, ap, sym, subst, map}}
 use Rattle.std.proofs.lemmas.Map.Iter.{iter_end}
-use Rattle.std.specs.Map.Iter.{deref}
-use Rattle.std.specs.BTreeMap.{keys}
-use Rattle.std.specs.String.{string_bytes}
-use Rattle.rm_base.specs.Store.{Ascends}
-use Rattle.rm_base.proofs.Names.{lent-names, names-ascend}
+use Rattle.rm_base.{specs.Store.{Ascends}, proofs.Names.{lent-names, names-ascend}}
 use Rattle.rm_store_dir.proofs.dir.texts.Goals as goal
 
 pub returns : goal.returns

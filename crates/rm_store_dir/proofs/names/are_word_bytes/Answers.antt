@@ -1,6 +1,4 @@
-use Rattle.std.proofs.Common.{rules, tests}
-use Rattle.std.proofs.lemmas.Iterator.{YieldsList-from_slice}
-use Rattle.std.proofs.lemmas.Iterator.Search.{all_from_yields_List}
+use Rattle.std.proofs.{Common.{rules, tests}, lemmas.Iterator.{YieldsList-from_slice, Search.{all_from_yields_List}}}
 use Rattle.rm_lang_token.specs.Tokens.{is_word_byte}
 use Rattle.rm_store_dir.proofs.names.are_word_bytes.Goals as goal
 

@@ -1,5 +1,4 @@
-use Rattle.std.proofs.Common.{rules}
-use Rattle.std.proofs.lemmas.List.Sorted.{IsNonDecreasingBy-from_sort_by_key}
+use Rattle.std.proofs.{Common.{rules}, lemmas.List.Sorted.{IsNonDecreasingBy-from_sort_by_key}}
 use Rattle.rm_base.specs.declared.block.Part.{Part}
 use Rattle.rm_test_channel.proofs.parts.by_block.Goals as goal
 

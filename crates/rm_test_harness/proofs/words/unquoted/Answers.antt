@@ -1,5 +1,4 @@
-use Rattle.std.proofs.Common.{None, arith, [], ◌∷◌, ◌++◌}
-use Rattle.std.proofs.lemmas.Str.Pattern.{strip_prefix_char}
+use Rattle.std.proofs.{Common.{None, arith, [], ◌∷◌, ◌++◌}, lemmas.Str.Pattern.{strip_prefix_char}}
 use Rattle.rm_test_harness.proofs.words.unquoted.Goals as goal
 
 pub returns-in_default : goal.returns-in_default

@@ -1,6 +1,4 @@
-use Rattle.std.proofs.Common.{◌≡◌, arith, length, subst}
-use Rattle.std.specs.List.{AllWithin}
-use Rattle.std.proofs.lemmas.List.Elements.{All-from_all_within}
+use Rattle.std.{specs.List.{AllWithin}, proofs.{Common.{◌≡◌, arith, length, subst}, lemmas.List.Elements.{All-from_all_within}}}
 use Rattle.rm_base.specs.declared.block.BlockId.{BlockId}
 use Rattle.rm_evidence.specs.Database.{world_of}
 use Rattle.rm_history.specs.FirstGap.{IsTarget}

@@ -1,5 +1,4 @@
-use Rattle.std.proofs.Common.{◌≡◌}
-use Rattle.std.specs.List.{AllWithin}
+use Rattle.std.{specs.List.{AllWithin}, proofs.Common.{◌≡◌}}
 use Rattle.rm_base.specs.declared.kinds.Kind.TheVariants.{Level1}
 use Rattle.rm_evidence.specs.Known.{FitsPiece}
 use Rattle.rm_test_plan.proofs.asked.are_level1s.Given as goal

@@ -1,6 +1,4 @@
-use Rattle.std.proofs.Common.{ℕ, ◌∙◌, refl, subst}
-use Rattle.std.proofs.lemmas.List.{get_or_default}
-use Rattle.std.proofs.lemmas.List.Elements.{AllWithin-more}
+use Rattle.std.proofs.{Common.{ℕ, ◌∙◌, refl, subst}, lemmas.List.{get_or_default, Elements.{AllWithin-more}}}
 use Rattle.rm_evidence.specs.Known.{FitsLog}
 use Rattle.rm_redo.specs.declared.log_file.LogFile.{LogFile}
 use Rattle.rm_test_plan.proofs.asked.are_logs.Goals as goal

@@ -1,5 +1,4 @@
-use Rattle.std.proofs.Common.{◌≡◌, ◌++◌}
-use Rattle.std.specs.Vec.Iter.{into_iter_items}
+use Rattle.std.{specs.Vec.Iter.{into_iter_items}, proofs.Common.{◌≡◌, ◌++◌}}
 use Rattle.rm_tool.proofs.block.add_lines.Given as goal
 
 abbrev pub invariant-loop-line : goal.invariant-loop-line

@@ -1,16 +1,9 @@
-use Rattle.std.proofs.Common.{◌≡◌, ◌≤◌, All, IsTrue, true, length}
-use Rattle.std.specs.List.{list_all}
-use Rattle.std.specs.Vec.Iter.{into_iter_items, into_iter_len}
+use Rattle.std.{specs.{List.{list_all}, Vec.Iter.{into_iter_items, into_iter_len}}, proofs.Common.{◌≡◌, ◌≤◌, All, IsTrue, true, length}}
 use Rattle.rm_report.specs.Reply.{IsPlain}
 use Rattle.rm_lang_statement.specs.IsCommand.{is_inner}
 use Rattle.rm_tool_opening.specs.Untouched.{IsUntouched}
-use Rattle.rm_tool.specs.Block.{AreSet}
-use Rattle.rm_tool.specs.Built.{is_built_inner}
-use Rattle.rm_tool.specs.Quiet.{only_tells_inner}
-use Rattle.rm_tool.specs.Comes.{at_hand}
-use Rattle.rm_tool.proofs.Blocks.{InsideEach}
-use Rattle.rm_tool.proofs.Coming.{Comes}
-use Rattle.rm_tool.proofs.block.serve_block.Given as goal
+use Rattle.rm_tool.{specs.{Block.{AreSet}, Built.{is_built_inner}, Quiet.{only_tells_inner}, Comes.{at_hand}}, proofs.Blocks.{InsideEach}}
+use Rattle.rm_tool.proofs.{Coming.{Comes}, block.serve_block.Given as goal}
 
 abbrev pub invariant-loop-inner : goal.invariant-loop-inner
 invariant-loop-inner g l =

@@ -1,18 +1,10 @@
-use Rattle.std.proofs.Common.{◌≡◌, refl, sym, subst, true}
-use Rattle.std.proofs.lemmas.Result.{IfOk-weaker}
+use Rattle.std.proofs.{Common.{◌≡◌, refl, sym, subst, true}, lemmas.Result.{IfOk-weaker}}
 use Rattle.rm_machine.specs.Built.{is_built}
-use Rattle.rm_lang_statement.specs.IsCommand.{is_command, is_inner}
-use Rattle.rm_lang_statement.specs.declared.command.Command.{Command}
-use Rattle.rm_lang_statement.specs.declared.command.Inner.{Inner}
-use Rattle.rm_tool.specs.Built.{is_built_inner}
-use Rattle.rm_tool.specs.Quiet.{only_tells_inner}
+use Rattle.rm_lang_statement.specs.{IsCommand.{is_command, is_inner}, declared.command.{Command.{Command}, Inner.{Inner}}}
+use Rattle.rm_tool.{specs.{Built.{is_built_inner}, Quiet.{only_tells_inner}}, proofs.Blocks.{channel-flagged, inner-untouched, set-flagged}}
+use Rattle.rm_tool.proofs.{Quiet.{quiet-with, tells-so}, Setting.{built_with, command_with}, Coming.{inner-comes, step-comes}}
+use Rattle.rm_tool.proofs.{Statements.{err-map, on-err}, block.serve_inner.Goals as goal}
 use Rattle.rm_report.specs.Reply.{IsFlagged}
-use Rattle.rm_tool.proofs.Blocks.{channel-flagged, inner-untouched, set-flagged}
-use Rattle.rm_tool.proofs.Quiet.{quiet-with, tells-so}
-use Rattle.rm_tool.proofs.Setting.{built_with, command_with}
-use Rattle.rm_tool.proofs.Coming.{inner-comes, step-comes}
-use Rattle.rm_tool.proofs.Statements.{err-map, on-err}
-use Rattle.rm_tool.proofs.block.serve_inner.Goals as goal
 
 pub returns-in_err-command-in-Plain-clause-stopped : goal.returns-in_err-command-in-Plain-clause-stopped
 returns-in_err-command-in-Plain-clause-stopped g c = on-err _ c.from_residual.result (inner-untouched c.args.site.now c.args.settings.now c.args.inner c.args.clock)

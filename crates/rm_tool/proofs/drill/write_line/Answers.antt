@@ -1,8 +1,7 @@
 use Rattle.std.proofs.Common.{codes, subst, List, ℕ, OnOk, OnErr}
 use Rattle.rm_base.specs.Outside.{Appends}
 use Rattle.rm_tool_ends.specs.Writing.{WritesFront}
-use Rattle.rm_tool.proofs.Lines.{before_last, err-after, front-more, ok-after, summary-is}
-use Rattle.rm_tool.proofs.Statements.{on-err}
+use Rattle.rm_tool.proofs.{Lines.{before_last, err-after, front-more, ok-after, summary-is}, Statements.{on-err}}
 use Rattle.rm_tool.proofs.drill.write_line.Goals as goal
 
 pub returns-in_err-write_parts-clause-front : goal.returns-in_err-write_parts-clause-front

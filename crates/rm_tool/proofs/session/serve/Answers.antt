@@ -2,8 +2,8 @@ use Rattle.std.proofs.Common.{◌∙◌, ℕ, List, Some, ap, sym}
 use Rattle.rm_lang_token.specs.declared.token.Token.{Token}
 use Rattle.rm_tool.proofs.Coming.{step-comes}
 use Rattle.rm_tool.proofs.Statements.{ok-three, ok-four, err-both, on-err, served-refused, served-run, served-step, cut-before, cut-step, cut-run}
-use Rattle.rm_report.proofs.Plain.{refused-flagged}
 use Rattle.rm_tool.proofs.session.serve.Goals as goal
+use Rattle.rm_report.proofs.Plain.{refused-flagged}
 
 pub returns-in_default-clause-served : goal.returns-in_default-clause-served
 returns-in_default-clause-served g c = served-refused (sym c.in_ok-statement.ensures.value ∙ c.in_default.is) c.in_ok-refusal_reply.ensures

@@ -1,7 +1,6 @@
 use Rattle.std.proofs.Common.{length, refl, rules}
-use Rattle.rm_tool.proofs.Drilling.{drill-shows, ends-in-line}
+use Rattle.rm_tool.{specs.declared.drill.Summary.{Summary}, proofs.Drilling.{drill-shows, ends-in-line}}
 use Rattle.rm_tool.proofs.session.serve_drill.Goals as goal
-use Rattle.rm_tool.specs.declared.drill.Summary.{Summary}
 
 pub returns-in_err-write_line-clause-sink : goal.returns-in_err-write_line-clause-sink
 returns-in_err-write_line-clause-sink g c = λ is.

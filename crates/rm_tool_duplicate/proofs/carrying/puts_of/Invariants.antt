@@ -1,5 +1,4 @@
-use Rattle.std.proofs.Common.{◌≡◌, ◌++◌, map}
-use Rattle.std.specs.Vec.Iter.{into_iter_items}
+use Rattle.std.{specs.Vec.Iter.{into_iter_items}, proofs.Common.{◌≡◌, ◌++◌, map}}
 use Rattle.rm_catalog.specs.declared.record.Edit.TheVariants.{Put}
 use Rattle.rm_tool_duplicate.proofs.carrying.puts_of.Given as goal
 

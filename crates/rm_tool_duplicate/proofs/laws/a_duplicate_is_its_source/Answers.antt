@@ -1,25 +1,14 @@
 use Rattle.std.proofs.Common.{None, Some, List, ◌≡◌, ◌∙◌, inl, inr, ap, refl, sym, subst}
 use Rattle.rm_apply.specs.Recover.{FindsGap, TellsAll, outside}
-use Rattle.rm_catalog.specs.Rules.{HasDatabase, IsCatalog}
-use Rattle.rm_catalog.specs.Trees.{nodes}
-use Rattle.rm_catalog.specs.declared.record.Record.{Record}
-use Rattle.rm_catalog_typed.proofs.Records.{database-told, world-told}
-use Rattle.rm_catalog_typed.specs.TypedCatalog.{records_of}
-use Rattle.rm_dup.specs.Copies.{made_of}
-use Rattle.rm_dup.specs.Entries.{catalog_of, moment_in}
-use Rattle.rm_evidence.specs.Database.{world_of}
-use Rattle.rm_evidence.specs.Known.{known_of}
-use Rattle.rm_evidence.specs.declared.evidence.InPlace.{InPlace}
-use Rattle.rm_history.specs.Evidence.{Agrees}
-use Rattle.rm_history.specs.History.{IsHistory}
-use Rattle.rm_history.specs.Tree.{IsThere}
-use Rattle.rm_history.specs.declared.world.World.{World}
+use Rattle.rm_catalog.specs.{Rules.{HasDatabase, IsCatalog}, Trees.{nodes}, declared.record.Record.{Record}}
+use Rattle.rm_catalog_typed.{specs.TypedCatalog.{records_of}, proofs.Records.{database-told, world-told}}
+use Rattle.rm_dup.specs.{Copies.{made_of}, Entries.{catalog_of, moment_in}}
+use Rattle.rm_evidence.specs.{Database.{world_of}, Known.{known_of}, declared.evidence.InPlace.{InPlace}}
+use Rattle.rm_history.specs.{Evidence.{Agrees}, History.{IsHistory}, Tree.{IsThere}, declared.world.World.{World}}
 use Rattle.rm_machine.specs.Recovery.{in_place}
 use Rattle.rm_machine_laws.proofs.Agreeing.{agreed}
-use Rattle.rm_tool_duplicate.specs.Asked.{target_inc}
-use Rattle.rm_tool_duplicate.proofs.Back.{catalog, database, inside, recorded-as, stands, there}
-use Rattle.rm_tool_duplicate.proofs.First.{first-place}
-use Rattle.rm_tool_duplicate.proofs.laws.a_duplicate_is_its_source.Goals as goal
+use Rattle.rm_tool_duplicate.{specs.Asked.{target_inc}, proofs.Back.{catalog, database, inside, recorded-as, stands, there}}
+use Rattle.rm_tool_duplicate.proofs.{First.{first-place}, laws.a_duplicate_is_its_source.Goals as goal}
 
 pub returns-clause-records : goal.returns-clause-records
 returns-clause-records c x a b before now rs is is_target =

@@ -1,9 +1,7 @@
 use Rattle.std.proofs.Common.{◌≡◌, None, sym, subst}
 use Rattle.rm_history.specs.Tree.{IsThere}
-use Rattle.rm_machine.specs.Recovery.{range_refusal}
-use Rattle.rm_machine.specs.State.{tree}
-use Rattle.rm_step_recover.proofs.Records.{fits, never-outside, there}
-use Rattle.rm_step_recover.proofs.Targets.{target-range, target-there}
+use Rattle.rm_machine.specs.{Recovery.{range_refusal}, State.{tree}}
+use Rattle.rm_step_recover.proofs.{Records.{fits, never-outside, there}, Targets.{target-range, target-there}}
 use Rattle.rm_tool_duplicate.proofs.making.duplicate_at.Goals as goal
 
 pub duplicate_from-requires-clause-place : goal.duplicate_from-requires-clause-place

@@ -1,18 +1,11 @@
-use Rattle.std.proofs.Common.{◌∙◌, Option, None, Some, IfSome, ap, sym, subst}
-use Rattle.std.specs.Option.{option_copied}
+use Rattle.std.{specs.Option.{option_copied}, proofs.Common.{◌∙◌, Option, None, Some, IfSome, ap, sym, subst}}
 use Rattle.rm_base.specs.declared.refusal.Refusal.TheVariants.{Rm02}
 use Rattle.rm_history.specs.Tree.{IsThere}
 use Rattle.rm_lang_words.specs.Reading.{duplicate_of}
-use Rattle.rm_machine.specs.Sound.{IsSound}
-use Rattle.rm_machine.specs.State.{tree}
-use Rattle.rm_machine.specs.declared.state.State.{State}
-use Rattle.rm_step_recover.proofs.Records.{there}
-use Rattle.rm_tool_duplicate.specs.Asked.{sides}
-use Rattle.rm_tool_duplicate.specs.Refused.{IsRefused, by_reason}
-use Rattle.rm_tool_duplicate.proofs.Made.{made-all, reason-by-names, refused-all}
-use Rattle.rm_tool_duplicate.proofs.Reasons.{by-numbers, no-source, number-none}
-use Rattle.rm_step_recover.proofs.Targets.{target-there}
-use Rattle.rm_tool_duplicate.proofs.making.duplicate_of.Goals as goal
+use Rattle.rm_machine.specs.{Sound.{IsSound}, State.{tree}, declared.state.State.{State}}
+use Rattle.rm_step_recover.proofs.{Records.{there}, Targets.{target-there}}
+use Rattle.rm_tool_duplicate.{specs.{Asked.{sides}, Refused.{IsRefused, by_reason}}, proofs.Made.{made-all, reason-by-names, refused-all}}
+use Rattle.rm_tool_duplicate.proofs.{Reasons.{by-numbers, no-source, number-none}, making.duplicate_of.Goals as goal}
 
 pub returns-in_default-clause-refused : goal.returns-in_default-clause-refused
 returns-in_default-clause-refused g c =

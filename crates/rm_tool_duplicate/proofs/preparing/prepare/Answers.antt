@@ -1,19 +1,12 @@
-use Rattle.std.proofs.Common.{◌≡◌, ◌∙◌, List, Option, Result, IfOk, ap, sym, subst}
-use Rattle.std.specs.Prelude.{IfErr}
-use Rattle.std.specs.Option.{option_copied}
+use Rattle.std.{specs.{Prelude.{IfErr}, Option.{option_copied}}, proofs.Common.{◌≡◌, ◌∙◌, List, Option, Result, IfOk, ap, sym, subst}}
 use Rattle.rm_base.specs.declared.refusal.Refusal.{Refusal}
 use Rattle.rm_dup.specs.declared.database.Duplicate.{Duplicate}
 use Rattle.rm_lang_words.specs.Reading.{duplicate_of as said_of}
 use Rattle.rm_machine.specs.declared.state.State.{State}
 use Rattle.rm_piece.specs.declared.piece.Piece.{Piece}
 use Rattle.rm_tool_opening.proofs.Source.{told-err}
-use Rattle.rm_tool_duplicate.specs.Asked.{sides}
-use Rattle.rm_tool_duplicate.specs.Duplicated.{IsMadeOf, commit_for}
-use Rattle.rm_tool_duplicate.specs.Ended.{Leaves}
-use Rattle.rm_tool_duplicate.specs.Refused.{IsRefused}
-use Rattle.rm_tool_duplicate.proofs.Ending.{shown-of, sides-stay, untold-refusal}
-use Rattle.rm_tool_duplicate.proofs.Truth.{makes}
-use Rattle.rm_tool_duplicate.proofs.preparing.prepare.Goals as goal
+use Rattle.rm_tool_duplicate.specs.{Asked.{sides}, Duplicated.{IsMadeOf, commit_for}, Ended.{Leaves}, Refused.{IsRefused}}
+use Rattle.rm_tool_duplicate.proofs.{Ending.{shown-of, sides-stay, untold-refusal}, Truth.{makes}, preparing.prepare.Goals as goal}
 
 pub returns-in_err-write_refusal-in-Err-clause-ended : goal.returns-in_err-write_refusal-in-Err-clause-ended
 returns-in_err-write_refusal-in-Err-clause-ended g c =

@@ -1,14 +1,9 @@
-use Rattle.std.proofs.Common.{◌≡◌, ◌∙◌, ℕ, List, ap, map, refl, rules, sym, arith}
-use Rattle.std.specs.Option.{option_map}
-use Rattle.std.proofs.lemmas.List.{length-map}
-use Rattle.rm_apply.proofs.Numbers.{few-targets, number, unnamed}
-use Rattle.rm_apply.specs.Files.{AreExactly}
+use Rattle.std.{specs.Option.{option_map}, proofs.{Common.{◌≡◌, ◌∙◌, ℕ, List, ap, map, refl, rules, sym, arith}, lemmas.List.{length-map}}}
+use Rattle.rm_apply.{specs.Files.{AreExactly}, proofs.Numbers.{few-targets, number, unnamed}}
 use Rattle.rm_base.specs.declared.refusal.Refusal.TheVariants.{Rm13}
 use Rattle.rm_evidence.specs.Database.{world_of}
 use Rattle.rm_plan.specs.Plan.{IsFileTarget}
-use Rattle.rm_tool_duplicate.specs.Refused.{files_at, first_taken, is_among}
-use Rattle.rm_tool_duplicate.proofs.Counting.{counted}
-use Rattle.rm_tool_duplicate.proofs.Reasons.{names-taken}
+use Rattle.rm_tool_duplicate.{specs.Refused.{files_at, first_taken, is_among}, proofs.{Counting.{counted}, Reasons.{names-taken}}}
 use Rattle.rm_tool_duplicate.proofs.refusing.name_refusal.Goals as goal
 
 pub overflow_cast-len : goal.overflow_cast-len

@@ -1,13 +1,9 @@
 use Rattle.std.proofs.Common.{◌∙◌, ◌∷◌, [], Contains, ap, lit<, refl, sym, subst}
-use Rattle.rm_lang_words.specs.Duplicate.{DuplicateSaid, duplicate_said}
-use Rattle.rm_lang_words.specs.Reading.{duplicate_of as said_of}
+use Rattle.rm_lang_words.specs.{Duplicate.{DuplicateSaid, duplicate_said}, Reading.{duplicate_of as said_of}}
 use Rattle.rm_shelf.specs.Shelved.{OthersStay, under}
-use Rattle.rm_tool_duplicate.specs.Asked.{sides}
-use Rattle.rm_tool_duplicate.proofs.Statuses.{leaves-at, of-bad, of-none, one-said}
+use Rattle.rm_tool_duplicate.{specs.Asked.{sides}, proofs.Statuses.{leaves-at, of-bad, of-none, one-said}}
 use Rattle.rm_tool_duplicate.proofs.run.run_duplicate.Goals as goal
-use Rattle.rm_tool_ends.proofs.Statuses.{has-status, words-status}
-use Rattle.rm_tool_ends.specs.Ended.{Counts}
-use Rattle.rm_tool_ends.specs.declared.ended.Ended.TheVariants as ended
+use Rattle.rm_tool_ends.{specs.{Ended.{Counts}, declared.ended.Ended.TheVariants as ended}, proofs.Statuses.{has-status, words-status}}
 
 pub returns-in-Err-Bad-clause-statuses : goal.returns-in-Err-Bad-clause-statuses
 returns-in-Err-Bad-clause-statuses g c = words-status c.refuse_words.result c.refuse_words.ensures.statuses

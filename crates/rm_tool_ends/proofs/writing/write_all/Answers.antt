@@ -1,6 +1,4 @@
-use Rattle.std.proofs.Common.{arith, take, drop, length-drop}
-use Rattle.std.proofs.Math.Seq.{take-add}
-use Rattle.std.proofs.lemmas.List.{take_rest}
+use Rattle.std.proofs.{Common.{arith, take, drop, length-drop}, Math.Seq.{take-add}, lemmas.List.{take_rest}}
 use Rattle.rm_base.proofs.Streams.{appends-then}
 use Rattle.rm_tool_ends.proofs.writing.write_all.Goals as goal
 

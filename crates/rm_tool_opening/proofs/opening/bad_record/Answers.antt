@@ -1,6 +1,4 @@
-use Rattle.std.proofs.Common.{◌∙◌, ◌++◌, ◌∷◌, [], ap, sym, append_assoc, List, ℕ}
-use Rattle.std.specs.Fmt.{decimal}
-use Rattle.std.specs.Prelude.{codes}
+use Rattle.std.{specs.{Fmt.{decimal}, Prelude.{codes}}, proofs.Common.{◌∙◌, ◌++◌, ◌∷◌, [], ap, sym, append_assoc, List, ℕ}}
 use Rattle.rm_tool_opening.proofs.opening.bad_record.Goals as goal
 
 pub returns : goal.returns

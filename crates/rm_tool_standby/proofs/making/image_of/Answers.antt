@@ -1,14 +1,9 @@
-use Rattle.std.proofs.Common.{◌≡◌, List, sym}
-use Rattle.std.proofs.lemmas.Result.{IfOk-weaker}
+use Rattle.std.proofs.{Common.{◌≡◌, List, sym}, lemmas.Result.{IfOk-weaker}}
 use Rattle.rm_base.specs.declared.block.Change.{Change}
-use Rattle.rm_history.specs.History.{IsHistory}
-use Rattle.rm_history.specs.declared.world.World.{World}
-use Rattle.rm_machine.specs.Recovery.{AreMadeAt}
-use Rattle.rm_machine.specs.State.{current_of, ledger, world}
-use Rattle.rm_standby.specs.Image.{AreStates, CanImage, imaged}
-use Rattle.rm_standby.specs.Standby.{HoldsStates}
-use Rattle.rm_tool_standby.proofs.Imaging.{image-can, image-holds, image-is}
-use Rattle.rm_tool_standby.proofs.making.image_of.Goals as goal
+use Rattle.rm_history.specs.{History.{IsHistory}, declared.world.World.{World}}
+use Rattle.rm_machine.specs.{Recovery.{AreMadeAt}, State.{current_of, ledger, world}}
+use Rattle.rm_standby.specs.{Image.{AreStates, CanImage, imaged}, Standby.{HoldsStates}}
+use Rattle.rm_tool_standby.proofs.{Imaging.{image-can, image-holds, image-is}, making.image_of.Goals as goal}
 
 pub image-requires : goal.image-requires
 image-requires c =

@@ -1,17 +1,9 @@
-use Rattle.std.proofs.Common.{◌≡◌, List, Option, Result, IfOk, subst}
-use Rattle.std.specs.Option.{option_copied}
-use Rattle.std.specs.Prelude.{IfErr, IsSomeAnd}
+use Rattle.std.{specs.{Option.{option_copied}, Prelude.{IfErr, IsSomeAnd}}, proofs.Common.{◌≡◌, List, Option, Result, IfOk, subst}}
 use Rattle.rm_base.specs.declared.refusal.Refusal.{Refusal}
 use Rattle.rm_catalog.specs.declared.record.Record.{Record}
-use Rattle.rm_tool_opening.proofs.Source.{told-err}
-use Rattle.rm_tool_opening.specs.Opening.{IsSource}
-use Rattle.rm_tool_standby.specs.Asked.{sides}
-use Rattle.rm_tool_standby.specs.Ended.{Leaves}
-use Rattle.rm_tool_standby.specs.Prepared.{IsReady, OfShown}
-use Rattle.rm_tool_standby.specs.Refused.{RefusesBy}
-use Rattle.rm_tool_standby.specs.declared.preparing.Ready.{Ready}
-use Rattle.rm_tool_standby.proofs.Ending.{untold-refusal}
-use Rattle.rm_tool_standby.proofs.Working.{ready-shown, refuses}
+use Rattle.rm_tool_opening.{specs.Opening.{IsSource}, proofs.Source.{told-err}}
+use Rattle.rm_tool_standby.specs.{Asked.{sides}, Ended.{Leaves}, Prepared.{IsReady, OfShown}, Refused.{RefusesBy}}
+use Rattle.rm_tool_standby.{specs.declared.preparing.Ready.{Ready}, proofs.{Ending.{untold-refusal}, Working.{ready-shown, refuses}}}
 use Rattle.rm_tool_standby.proofs.preparing.prepare.Goals as goal
 
 pub returns-in_err-write_refusal-in-Ok-Err-clause-ended : goal.returns-in_err-write_refusal-in-Ok-Err-clause-ended

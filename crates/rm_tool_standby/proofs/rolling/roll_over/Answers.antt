@@ -1,7 +1,5 @@
-use Rattle.std.proofs.Common.{◌∙◌, List, ℕ, Option, Some, None, subst, sym}
-use Rattle.std.proofs.lemmas.Result.{IfErr-weaker}
-use Rattle.rm_base.specs.declared.refusal.Refusal.TheVariants.{Rm12}
-use Rattle.rm_base.specs.declared.refusal.Unknown.TheVariants.{Object}
+use Rattle.std.proofs.{Common.{◌∙◌, List, ℕ, Option, Some, None, subst, sym}, lemmas.Result.{IfErr-weaker}}
+use Rattle.rm_base.specs.declared.refusal.{Refusal.TheVariants.{Rm12}, Unknown.TheVariants.{Object}}
 use Rattle.rm_evidence.specs.Names.{roll_name}
 use Rattle.rm_lang_words.specs.declared.standby.StandbyTask.TheVariants.{Roll}
 use Rattle.rm_piece.specs.declared.set.Set.{Set}

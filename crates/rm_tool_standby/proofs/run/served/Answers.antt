@@ -1,16 +1,9 @@
-use Rattle.std.proofs.Common.{◌≡◌, ◌∙◌, inr, Option, ap, arith, sym, subst}
-use Rattle.std.specs.Prelude.{Err}
-use Rattle.rm_base.specs.Outside.{Appends}
-use Rattle.rm_base.specs.Store.{Held}
-use Rattle.rm_tool_opening.proofs.Source.{told-err}
-use Rattle.rm_tool_opening.specs.Opening.{IsSource}
-use Rattle.rm_tool_ends.specs.Causes.{of_stop}
-use Rattle.rm_tool_ends.specs.Ended.{Counts, NoneFalls, RoseFor}
-use Rattle.rm_tool_ends.specs.Writing.{WritesFront}
+use Rattle.std.{specs.Prelude.{Err}, proofs.Common.{◌≡◌, ◌∙◌, inr, Option, ap, arith, sym, subst}}
+use Rattle.rm_base.specs.{Outside.{Appends}, Store.{Held}}
+use Rattle.rm_tool_opening.{specs.Opening.{IsSource}, proofs.Source.{told-err}}
+use Rattle.rm_tool_ends.specs.{Causes.{of_stop}, Ended.{Counts, NoneFalls, RoseFor}, Writing.{WritesFront}}
 use Rattle.rm_tool_ends.specs.declared.ended.Ended.TheVariants as ended
-use Rattle.rm_tool_standby.specs.Asked.{sides}
-use Rattle.rm_tool_standby.specs.Ended.{Leaves, Takes}
-use Rattle.rm_tool_standby.specs.Prepared.{IsReady, StopsAt}
+use Rattle.rm_tool_standby.specs.{Asked.{sides}, Ended.{Leaves, Takes}, Prepared.{IsReady, StopsAt}}
 use Rattle.rm_tool_standby.proofs.Ending.{falls-then, finishes, halts, none-falls, rose-between, rose-stop, untold-lines}
 use Rattle.rm_tool_standby.proofs.run.served.Goals as goal
 

@@ -1,10 +1,7 @@
-use Rattle.std.proofs.Common.{List, ℕ, subst, sym}
-use Rattle.std.specs.Prelude.{IfSome}
+use Rattle.std.{specs.Prelude.{IfSome}, proofs.Common.{List, ℕ, subst, sym}}
 use Rattle.rm_base.specs.Store.{AreTheNames}
 use Rattle.rm_evidence.proofs.Seen.{seen-then}
-use Rattle.rm_verify.specs.Crosscheck.{is_among, stands_in}
-use Rattle.rm_verify.proofs.Among.{names-seen}
-use Rattle.rm_verify.proofs.Checked.{lists-alike}
+use Rattle.rm_verify.{specs.Crosscheck.{is_among, stands_in}, proofs.{Among.{names-seen}, Checked.{lists-alike}}}
 use Rattle.rm_verify.proofs.crosschecking.crosscheck.Goals as goal
 
 pub returns-clause-checked : goal.returns-clause-checked

@@ -1,9 +1,6 @@
-use Rattle.std.proofs.Common.{◌∙◌, List, ℕ, of_calls, rules}
-use Rattle.std.specs.Cmp.Lexicographic.{slice_cmp}
-use Rattle.std.specs.Ordering.{nat_cmp}
+use Rattle.std.{specs.{Cmp.Lexicographic.{slice_cmp}, Ordering.{nat_cmp}}, proofs.Common.{◌∙◌, List, ℕ, of_calls, rules}}
 use Rattle.std.proofs.lemmas.Fn.{always_returns_same}
-use Rattle.rm_verify.proofs.Among.{found-among}
-use Rattle.rm_verify.proofs.crosschecking.is_among.Goals as goal
+use Rattle.rm_verify.proofs.{Among.{found-among}, crosschecking.is_among.Goals as goal}
 
 pub returns : goal.returns
 returns c =

@@ -1,9 +1,7 @@
 use Rattle.std.proofs.Common.{List}
 use Rattle.rm_base.specs.declared.kinds.Status.{Status}
 use Rattle.rm_catalog.specs.declared.record.Record.{Record}
-use Rattle.rm_verify.specs.Crosscheck.{IsChecked, is_among}
-use Rattle.rm_verify.proofs.Checked.{is-of-one, tells}
-use Rattle.rm_verify.proofs.Growing.{end, next}
+use Rattle.rm_verify.{specs.Crosscheck.{IsChecked, is_among}, proofs.{Checked.{is-of-one, tells}, Growing.{end, next}}}
 use Rattle.rm_verify.proofs.crosschecking.statuses.Goals as goal
 
 pub loop-row-preserved : goal.loop-row-preserved

@@ -1,6 +1,4 @@
-use Rattle.std.proofs.Common.{◌≡◌, ◌∙◌, ℕ, All, ap, arith, take}
-use Rattle.std.proofs.Math.Seq.{take-length}
-use Rattle.std.proofs.lemmas.List.Elements.{All-more}
+use Rattle.std.proofs.{Common.{◌≡◌, ◌∙◌, ℕ, All, ap, arith, take}, Math.Seq.{take-length}, lemmas.List.Elements.{All-more}}
 use Rattle.rm_evidence.specs.Taking.{HasId}
 use Rattle.rm_verify.proofs.validating.ids_fit.Goals as goal
 

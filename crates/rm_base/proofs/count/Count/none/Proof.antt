@@ -1,6 +1,5 @@
 -- `none` makes the empty struct, with the number that its clause names. Assumes `Logic`.
-use Rattle.std.proofs.Common.{List, [], ◌∷◌, refl}
-use Rattle.std.proofs.raw_atomic.Walks.{proved}
+use Rattle.std.proofs.{Common.{List, [], ◌∷◌, refl}, raw_atomic.Walks.{proved}}
 use mir.Val.{Val, vstruct, vnil}
 use contract.Running.{tables}
 use types.Kit.{‵, raw, ◌$◌, ◌∵◌, !, qed, keep, split, ◌⊛◌, fjoin, fpack, feq_i, move, suffices, done}
@@ -13,11 +12,8 @@ use denote.Steps.{nothing}
 use denote.Struct.Struct.{within}
 use denote.Triple.Entry.{alive}
 use denote.Triple.Walked.{says, Stays, walk_of, ends_at}
-use Rattle.rm_base.specs.contracts.count.Count as Count
-use Rattle.rm_base.specs.contracts.count.Count.none as f
-use Rattle.rm_base.specs.contracts.count.Count.none.Key.{name as #self}
-use Rattle.rm_base.proofs.count.Count.none.Statement.{statement}
-use Rattle.rm_base.proofs.count.Count.none.Code as code
+use Rattle.rm_base.specs.contracts.count.{Count as Count, Count.{none as f, none.Key.{name as #self}}}
+use Rattle.rm_base.proofs.count.Count.none.{Code as code, Statement.{statement}}
 
 abbrev stayed : Stays f.ended.signature.params f.ended.kept
 stayed = tt

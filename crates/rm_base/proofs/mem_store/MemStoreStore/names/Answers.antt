@@ -1,11 +1,6 @@
-use Rattle.std.proofs.Common.{◌≡◌, ◌∙◌, rules, ap, sym, subst, map}
+use Rattle.std.{specs.{Map.Iter.{deref}, BTreeMap.{keys}, String.{string_bytes}}, proofs.Common.{◌≡◌, ◌∙◌, rules, ap, sym, subst, map}}
 use Rattle.std.proofs.lemmas.Map.Iter.{iter_end}
-use Rattle.std.specs.Map.Iter.{deref}
-use Rattle.std.specs.BTreeMap.{keys}
-use Rattle.std.specs.String.{string_bytes}
-use Rattle.rm_base.specs.Store.{Ascends, AreTheNames}
-use Rattle.rm_base.specs.MemStore.{held_by}
-use Rattle.rm_base.proofs.Names.{lent-names, names-ascend, names-found}
+use Rattle.rm_base.{specs.{Store.{Ascends, AreTheNames}, MemStore.{held_by}}, proofs.Names.{lent-names, names-ascend, names-found}}
 use Rattle.rm_base.proofs.mem_store.MemStoreStore.names.Goals as goal
 
 pub returns-clause-ascending : goal.returns-clause-ascending

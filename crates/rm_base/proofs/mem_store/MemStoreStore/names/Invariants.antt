@@ -1,5 +1,4 @@
-use Rattle.std.proofs.Common.{◌≡◌, map}
-use Rattle.std.specs.String.{string_bytes}
+use Rattle.std.{specs.String.{string_bytes}, proofs.Common.{◌≡◌, map}}
 use Rattle.rm_base.proofs.mem_store.MemStoreStore.names.Given as goal
 
 abbrev pub invariant-loop-name : goal.invariant-loop-name

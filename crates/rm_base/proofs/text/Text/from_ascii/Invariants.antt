@@ -1,5 +1,4 @@
-use Rattle.std.proofs.Common.{◌≡◌, take}
-use Rattle.std.specs.String.{string_bytes}
+use Rattle.std.{specs.String.{string_bytes}, proofs.Common.{◌≡◌, take}}
 use Rattle.rm_base.proofs.text.Text.from_ascii.Given as goal
 
 abbrev pub invariant-loop-byte : goal.invariant-loop-byte

@@ -1,9 +1,6 @@
 use Rattle.std.proofs.Common.{◌≡◌, ◌∙◌, ◌<◌, length, List, [], ◌∷◌, None, sym, subst, arith}
 use Rattle.rm_history.specs.declared.tree.Incarnation.{Incarnation}
-use Rattle.rm_catalog.specs.declared.record.Record.{Record}
-use Rattle.rm_catalog.specs.Rules.{HasDatabase}
-use Rattle.rm_catalog.specs.Trees.{nodes, as_tree}
-use Rattle.rm_catalog.proofs.Trees.{some_node}
+use Rattle.rm_catalog.{specs.{Rules.{HasDatabase}, Trees.{nodes, as_tree}, declared.record.Record.{Record}}, proofs.Trees.{some_node}}
 use Rattle.rm_catalog.proofs.catalog.Catalog.tree.Goals as goal
 
 no_tree : (ns : List Incarnation) → as_tree ns ≡ None → 0 < length ns → ⊥

@@ -1,7 +1,5 @@
 use Rattle.std.proofs.Common.{arith, subst}
-use Rattle.rm_catalog_typed.specs.Facts.{IsTypedCatalog}
-use Rattle.rm_catalog_typed.proofs.Changed.{follows_no_piece}
-use Rattle.rm_catalog_typed.proofs.Fitted.{no_piece_fits}
+use Rattle.rm_catalog_typed.{specs.Facts.{IsTypedCatalog}, proofs.{Changed.{follows_no_piece}, Fitted.{no_piece_fits}}}
 use Rattle.rm_catalog_typed.proofs.catalog.TypedCatalog.drop_piece.Goals as goal
 
 pub invariant_of-self : goal.invariant_of-self

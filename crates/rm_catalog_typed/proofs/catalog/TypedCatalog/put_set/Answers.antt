@@ -1,7 +1,5 @@
 use Rattle.std.proofs.Common.{subst}
-use Rattle.rm_catalog_typed.specs.Facts.{IsTypedCatalog}
-use Rattle.rm_catalog_typed.proofs.Changed.{follows_set}
-use Rattle.rm_catalog_typed.proofs.Fitted.{set_fits}
+use Rattle.rm_catalog_typed.{specs.Facts.{IsTypedCatalog}, proofs.{Changed.{follows_set}, Fitted.{set_fits}}}
 use Rattle.rm_catalog_typed.proofs.catalog.TypedCatalog.put_set.Goals as goal
 
 pub invariant_of-self-2 : goal.invariant_of-self-2

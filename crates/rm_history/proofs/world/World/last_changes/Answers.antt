@@ -1,8 +1,7 @@
 use Rattle.std.proofs.Common.{rules, ◌≡◌, ◌∷◌, [], ◌∙◌, List, Option, None, Bool, ap, sym, arith, slice_index_or, replicate}
 use Rattle.std.proofs.lemmas.List.{get_or-replicate}
 use Rattle.rm_base.specs.declared.block.Change.{Change}
-use Rattle.rm_history.specs.State.{concerns}
-use Rattle.rm_history.proofs.States.{latest-on, latest-on-none, latest-on-append}
+use Rattle.rm_history.{specs.State.{concerns}, proofs.States.{latest-on, latest-on-none, latest-on-append}}
 use Rattle.rm_history.proofs.world.World.last_changes.Goals as goal
 
 pub loop-change-init : goal.loop-change-init

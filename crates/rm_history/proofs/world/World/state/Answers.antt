@@ -1,7 +1,6 @@
 use Rattle.std.proofs.Common.{◌≡◌, ◌∷◌, [], ◌∙◌, List, Some, None, Bool, cond, ap, sym}
 use Rattle.rm_base.specs.declared.block.Change.{Change}
-use Rattle.rm_history.specs.State.{concerns, later}
-use Rattle.rm_history.proofs.States.{latest-on, latest-on-none, latest-on-append}
+use Rattle.rm_history.{specs.State.{concerns, later}, proofs.States.{latest-on, latest-on-none, latest-on-append}}
 use Rattle.rm_history.proofs.world.World.state.Goals as goal
 
 pub loop-change-init : goal.loop-change-init

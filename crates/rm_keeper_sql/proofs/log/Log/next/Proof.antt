@@ -1,6 +1,5 @@
 -- `next` makes the empty struct, with the edits that its clause names. Assumes `Logic`.
-use Rattle.std.proofs.Common.{List, [], ◌∷◌, ◌++◌, refl}
-use Rattle.std.proofs.raw_atomic.Walks.{proved_at}
+use Rattle.std.proofs.{Common.{List, [], ◌∷◌, ◌++◌, refl}, raw_atomic.Walks.{proved_at}}
 use mir.Val.{Val, vptr, vstruct, vnil}
 use prog.Wp.{WpFn}
 use contract.Running.{tables}
@@ -17,11 +16,8 @@ use denote.Struct.Struct.{within}
 use denote.Triple.Entry.{alive}
 use denote.Triple.Walked.{says, Stays, stay_dropped, Goes-dropped, walk_of, ends_at}
 use Rattle.rm_catalog.specs.contracts.record.Edit as Edit
-use Rattle.rm_keeper_sql.specs.contracts.log.Log as Log
-use Rattle.rm_keeper_sql.specs.contracts.log.Log.next as f
-use Rattle.rm_keeper_sql.specs.contracts.log.Log.next.Key.{name as #self}
+use Rattle.rm_keeper_sql.{specs.contracts.log.{Log as Log, Log.{next as f, next.Key.{name as #self}}}, proofs.log.Log.next.{Code as code}}
 use Rattle.rm_keeper_sql.proofs.log.Log.next.Statement.{statement}
-use Rattle.rm_keeper_sql.proofs.log.Log.next.Code as code
 
 abbrev stayed : Stays f.ended.signature.params f.ended.kept
 stayed = (

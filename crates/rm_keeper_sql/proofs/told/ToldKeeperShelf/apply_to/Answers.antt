@@ -1,9 +1,7 @@
 use Rattle.std.proofs.Common.{◌∙◌, ℕ, List, Some, sym, ap, subst}
 use Rattle.sqlite.specs.State.{HasCleanDisk}
 use Rattle.rm_catalog.specs.declared.record.Edit.{Edit}
-use Rattle.rm_keeper_sql.specs.Shelves.{numbered, records_at}
-use Rattle.rm_keeper_sql.specs.Known.{Known}
-use Rattle.rm_keeper_sql.specs.SqlKeeper.{connection_of, state_of}
+use Rattle.rm_keeper_sql.specs.{Shelves.{numbered, records_at}, Known.{Known}, SqlKeeper.{connection_of, state_of}}
 use Rattle.rm_keeper_sql.proofs.Telltale.{added_to, known_applied, known_kept, records_many, records_others}
 use Rattle.rm_keeper_sql.proofs.told.ToldKeeperShelf.apply_to.Goals as goal
 

@@ -1,6 +1,5 @@
 use Rattle.sqlite.specs.State.{HasCleanDisk}
-use Rattle.rm_keeper_sql.specs.SqlKeeper.{connection_of, state_of}
-use Rattle.rm_keeper_sql.proofs.Telltale.{known_kept, told_read, told_ascends}
+use Rattle.rm_keeper_sql.{specs.SqlKeeper.{connection_of, state_of}, proofs.Telltale.{known_kept, told_read, told_ascends}}
 use Rattle.rm_keeper_sql.proofs.told.ToldKeeperShelf.load_of.Goals as goal
 
 pub invariant_of-self : goal.invariant_of-self

@@ -1,14 +1,8 @@
-use Rattle.std.proofs.Common.{◌≡◌, ◌∙◌, List, map, sym}
-use Rattle.std.specs.String.{string_bytes}
-use Rattle.std.specs.List.{list_all}
-use Rattle.clap.proofs.TakesLemmas.{passed_up}
+use Rattle.std.{specs.{String.{string_bytes}, List.{list_all}}, proofs.Common.{◌≡◌, ◌∙◌, List, map, sym}}
 use Rattle.std.proofs.lemmas.List.Folds.{list_all-map}
-use Rattle.clap.specs.declared.parser.matches.ArgMatches.{ArgMatches}
-use Rattle.rm_lang_words.specs.declared.form.Entry.{Entry as EntryInCode}
-use Rattle.rm_lang_words.specs.Options.{Text}
-use Rattle.rm_lang_words.specs.Form.{Entry, entry_of, form_of, is_met_by}
-use Rattle.rm_lang_words.specs.Clap.{all_met, found, value_at}
-use Rattle.rm_lang_words.proofs.Says.{says, says_none, says_unmet}
+use Rattle.clap.{specs.declared.parser.matches.ArgMatches.{ArgMatches}, proofs.TakesLemmas.{passed_up}}
+use Rattle.rm_lang_words.specs.{Options.{Text}, Form.{Entry, entry_of, form_of, is_met_by}, Clap.{all_met, found, value_at}}
+use Rattle.rm_lang_words.{specs.declared.form.Entry.{Entry as EntryInCode}, proofs.Says.{says, says_none, says_unmet}}
 use Rattle.rm_lang_words.proofs.reader.Options.read.Goals as goal
 
 -- each entry is met by what is found exactly where the code's test of its value passes

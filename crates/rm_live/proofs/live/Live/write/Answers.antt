@@ -1,12 +1,8 @@
 use Rattle.std.proofs.Common.{refl, ap, sym, ◌∙◌, ◌∷◌, subst}
 use Rattle.atomic_table.specs.Table.{rest}
 use Rattle.rm_redo.specs.Online.{IsThread, IsLost}
-use Rattle.rm_live.specs.declared.history.Answer.{Answer}
-use Rattle.rm_live.specs.declared.history.Answer.TheVariants.{Wrote}
-use Rattle.rm_live.specs.declared.history.Call.{Call}
-use Rattle.rm_live.specs.declared.history.Call.TheVariants.{Write}
-use Rattle.rm_live.specs.Passes.{Standing, standing}
-use Rattle.rm_live.proofs.Turns.{IsAdded, adds, sound_is, thread_is, found_is, turn_is}
+use Rattle.rm_live.specs.{Passes.{Standing, standing}, declared.history.{Answer.{Answer, TheVariants.{Wrote}}, Call.{Call}}}
+use Rattle.rm_live.{specs.declared.history.Call.TheVariants.{Write}, proofs.Turns.{IsAdded, adds, sound_is, thread_is, found_is, turn_is}}
 use Rattle.rm_live.proofs.live.Live.write.Goals as goal
 
 pub slot_mut-database-requires : goal.slot_mut-database-requires

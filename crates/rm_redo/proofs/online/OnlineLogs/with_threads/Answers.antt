@@ -1,7 +1,5 @@
 use Rattle.std.proofs.Common.{◌≡◌, sym, subst, length, rules, List}
-use Rattle.rm_redo.specs.declared.online.ThreadLog.{ThreadLog}
-use Rattle.rm_redo.specs.Logs.{IsLogs}
-use Rattle.rm_redo.proofs.Logs.{begun-logs}
+use Rattle.rm_redo.{specs.{Logs.{IsLogs}, declared.online.ThreadLog.{ThreadLog}}, proofs.Logs.{begun-logs}}
 use Rattle.rm_redo.proofs.online.OnlineLogs.with_threads.Goals as goal
 
 pub invariant_of-result : goal.invariant_of-result

@@ -1,6 +1,5 @@
 use Rattle.std.proofs.Common.{◌≡◌, rules, true, false}
-use Rattle.rm_store_dir.specs.DirStore.{is_object, folder_of}
-use Rattle.rm_store_dir.proofs.Objects.{found_none, found_some}
+use Rattle.rm_store_dir.{specs.DirStore.{is_object, folder_of}, proofs.Objects.{found_none, found_some}}
 use Rattle.rm_store_dir.proofs.store.DirStoreStore.get.Goals as goal
 
 pub returns-then-not-is_object-clause-found : goal.returns-then-not-is_object-clause-found

@@ -1,10 +1,6 @@
-use Rattle.std.proofs.Common.{◌≡◌, sym, subst, rules, true, Some}
-use Rattle.std.specs.Option.{option_map}
-use Rattle.std.specs.Prelude.{IfSome}
+use Rattle.std.{specs.{Option.{option_map}, Prelude.{IfSome}}, proofs.Common.{◌≡◌, sym, subst, rules, true, Some}}
 use Rattle.rm_base.specs.Store.{Both, SameBut}
-use Rattle.rm_store_dir.specs.DirStore.{is_object, objects_of, folder_of}
-use Rattle.rm_store_dir.specs.Folder.{MayHave}
-use Rattle.rm_store_dir.proofs.Objects.{now_has, others_stay}
+use Rattle.rm_store_dir.{specs.{DirStore.{is_object, objects_of, folder_of}, Folder.{MayHave}}, proofs.Objects.{now_has, others_stay}}
 use Rattle.rm_store_dir.proofs.store.DirStoreStore.put.Goals as goal
 
 pub returns-in-Ok-clause-stands : goal.returns-in-Ok-clause-stands
