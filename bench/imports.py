@@ -2,7 +2,8 @@
 """Writes the imports of each source of logic, one line a crate where it fits:
     bench/imports.py FILE..      puts the imports of these .rt and .antt files together
 Lines `use Rattle.CRATE...` (`ghost use` in .rt) that stand one below the other become `use Rattle.CRATE.{..}`, each crate where it first stood, its
-definitions before its types and its lemmas. A line is not made longer than 140 columns. What a file says stays the same, and so do all other lines."""
+definitions before its types and its lemmas. A line is not made longer than 140 columns. A module that is named as such keeps a line of its own, as
+the language wants it. What a file says stays the same, and so do all other lines."""
 import re
 import sys
 
@@ -45,7 +46,7 @@ def text_of(entries):
     """Returns the entries as one path, with braces where they part."""
     if len(entries) == 1:
         path, names = entries[0]
-        return ".".join(path) + ("" if names is None else ".{" + ", ".join(names) + "}")
+        return ".".join(path) + ".{" + ", ".join(names) + "}"
     heads = []
     for path, _ in entries:
         if path[0] not in heads:
@@ -59,10 +60,10 @@ def text_of(entries):
 
 def group_of(head, below):
     """Returns a head with all that stands below it."""
-    own = [name for path, names in below if not path for name in names or []]
+    own = [name for path, names in below if not path for name in names]
     deep = [(path, names) for path, names in below if path]
     if not deep:
-        return head + ".{" + ", ".join(own) + "}" if own else head
+        return head + ".{" + ", ".join(own) + "}"
     text = text_of(deep)
     if not own:
         return f"{head}.{text}"
@@ -74,24 +75,23 @@ def joined(entries):
     """Returns the entries with those of one path as one."""
     found = {}
     for path, names in entries:
-        if names is None:
-            found[(path, True)] = None
-        else:
-            kept = found.setdefault((path, False), [])
-            kept.extend(name for name in names if name not in kept)
-    return [(path, names) for (path, _), names in found.items()]
+        kept = found.setdefault(path, [])
+        kept.extend(name for name in names if name not in kept)
+    return list(found.items())
 
 
 def lines_of(indent, word, end, entries):
-    """Returns the lines of one crate."""
+    """Returns the lines of one crate: its items, and then its modules."""
     lines, now = [], []
-    for entry in sorted(joined(entries), key=rank):
+    for entry in sorted(joined([it for it in entries if it[1] is not None]), key=rank):
         line = f"{indent}{word}Rattle.{text_of(now + [entry])}{end}"
         if now and len(line) > WIDTH:
             lines.append(f"{indent}{word}Rattle.{text_of(now)}{end}")
             now = []
         now.append(entry)
-    return lines + [f"{indent}{word}Rattle.{text_of(now)}{end}"]
+    if now:
+        lines.append(f"{indent}{word}Rattle.{text_of(now)}{end}")
+    return lines + [f"{indent}{word}Rattle.{'.'.join(path)}{end}" for path, names in entries if names is None]
 
 
 def written(block):

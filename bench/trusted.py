@@ -12,6 +12,8 @@ import os
 import re
 import sys
 
+from imports import imports_of
+
 TOP = os.path.dirname(os.path.dirname(os.path.abspath(__file__)))
 PAPER = os.path.join(TOP, "docs", "TRUSTED.md")
 ROOT = ("crates/rm_tool/src/run.rt", "run")
@@ -89,15 +91,14 @@ def items_of_code(path):
 
 def uses_of(path):
     """Returns what the `use` lines of a file name: by the local name the words of the whole path."""
+    end = "$" if path.endswith(".antt") else ";"
     found = {}
-    for whole, group, alias in re.findall(r"(?m)^\s*(?:ghost |pub )?use ([\w.:]+?)(?:[.:]+\{([^}]*)\})?(?: as (\w+))?;?$", read(path)):
-        stem = re.split(r"\.|::", whole)
-        for part in (group or "").split(","):
-            words = part.split()
-            if words:
-                found[words[-1]] = stem + [words[0]]
-        if not group:
-            found[alias or stem[-1]] = stem
+    for text in re.findall(rf"(?ms)^\s*(?:pub )?(?:ghost )?use (.+?){end}", read(path)):
+        for stem, names in imports_of(" ".join(text.split()).replace("::", ".")):
+            for name in [".".join(stem)] if names is None else [".".join(stem) + "." + it for it in names]:
+                whole, _, alias = name.partition(" as ")
+                words = whole.split(".")
+                found[alias or words[-1]] = words
     return found
 
 

@@ -2,7 +2,8 @@
 use Rattle.std.{specs.Prelude.{◌↔◌}, proofs.Common.{◌≡◌, ◌<◌, ◌⊎◌, inl, inr, ℕ, List, [], ◌∷◌, Contains, map, sym, ap, subst, arith}}
 use Rattle.std.proofs.lemmas.List.Elements.{Contains-append_cases, Contains-append_right}
 use Rattle.rm_base.{specs.Store.{Held}, proofs.Members.{first-or-rest, none-in}}
-use Rattle.rm_catalog.specs.{Rules.{IsCatalog}, declared.record.Record.{Record, TheVariants as kind}}
+use Rattle.rm_catalog.specs.{Rules.{IsCatalog}, declared.record.Record.{Record}}
+use Rattle.rm_catalog.specs.declared.record.Record.TheVariants as kind
 use Rattle.rm_evidence.specs.{Database.{database_in, dbid_in}, Gathered.{IsBaseOf, IsGathered, IsPieceAmong, placed, placed_piece}}
 use Rattle.rm_evidence.{specs.declared.evidence.{Evidence.{Evidence}, InPlace.{InPlace}}, proofs.Found.{obeys}}
 use Rattle.rm_piece.specs.declared.piece.Piece.{Piece}

@@ -5,7 +5,8 @@ use Rattle.rm_base.proofs.Members.{first-or-rest, in-front}
 use Rattle.rm_evidence.proofs.Extending.{pairs-head, pairs-tail}
 use Rattle.rm_history.specs.{Evidence.{Evidence}, FirstGap.{IsFirstGap, IsRecoverable}, Unknown.{IsUnknown}, declared.world.World.{World}}
 use Rattle.rm_plan.specs.{FirstGap.{FilesBelow}, Plan.{IsFileFault, IsFileTarget}, declared.plan.{Gap.{Gap}, PlanFault.{PlanFault}}}
-use Rattle.rm_plan.{specs.declared.plan.PlanFault.TheVariants as planned, proofs.Firsts.{first_of_all, gap_of_file}}
+use Rattle.rm_plan.proofs.Firsts.{first_of_all, gap_of_file}
+use Rattle.rm_plan.specs.declared.plan.PlanFault.TheVariants as planned
 use Rattle.rm_apply.specs.{Applying.{ArePlanned, applied}, Files.{AreExactly}, Told.{IsFaultOfAll, IsGapOrNone}, declared.plans.Plan.{Plan}}
 use Rattle.rm_apply.proofs.Rows.{applied-numbers, applied-told, member-determined}
 

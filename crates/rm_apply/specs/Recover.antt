@@ -6,8 +6,8 @@ use Rattle.rm_evidence.specs.{Gathered.{IsGathered}, Known.{FitsTree, known_of},
 use Rattle.rm_evidence.specs.declared.evidence.{Evidence.{Evidence}, InPlace.{InPlace}}
 use Rattle.rm_history.specs.{Tree.{reset_of, end_of}, declared.tree.Incarnation.{Incarnation}}
 use Rattle.rm_plan.specs.declared.plan.Gap.{Gap}
-use Rattle.rm_apply.specs.{Told.{AreFilesAt, IsGapOfAll}, declared.fault.RecoverFault.{RecoverFault, TheVariants as fault}}
-use Rattle.rm_apply.specs.declared.recovering.Recovered.{Recovered}
+use Rattle.rm_apply.specs.{Told.{AreFilesAt, IsGapOfAll}, declared.{fault.RecoverFault.{RecoverFault}, recovering.Recovered.{Recovered}}}
+use Rattle.rm_apply.specs.declared.fault.RecoverFault.TheVariants as fault
 
 -- the resetlogs SCN of incarnation i and its end, where s is below the one or above the other
 abbrev pub outside : List Incarnation → ℕ → ℕ → Option (ℕ × ℕ)

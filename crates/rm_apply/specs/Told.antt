@@ -4,7 +4,8 @@ use Rattle.rm_base.specs.declared.block.Row.{Row}
 use Rattle.rm_blocks.specs.File.{File}
 use Rattle.rm_history.specs.{World.{blocks_of}, Evidence.{Evidence}, FirstGap.{IsFirstGap, IsRecoverable}, Known.{Determined}}
 use Rattle.rm_history.specs.{Unknown.{IsUnknown}, declared.world.World.{World}}
-use Rattle.rm_plan.specs.{Plan.{IsFileTarget}, declared.plan.{Gap.{Gap}, PlanFault.{PlanFault, TheVariants as planned}}}
+use Rattle.rm_plan.specs.{Plan.{IsFileTarget}, declared.plan.{Gap.{Gap}, PlanFault.{PlanFault}}}
+use Rattle.rm_plan.specs.declared.plan.PlanFault.TheVariants as planned
 use Rattle.rm_apply.specs.Files.{AreExactly}
 
 -- x is datafile f at (i, s): each block has the version and the content that the evidence determines

@@ -5,7 +5,8 @@ use Rattle.std.proofs.lemmas.{Bool.{eqb-true, eq-eqb}, List.Elements.{All-contai
 use Rattle.std.proofs.lemmas.Option.{same_Some}
 use Rattle.rm_base.{specs.{Store.{Held}, declared.kinds.Kind.TheVariants.{Level1}}, proofs.Lists.{find_cases, find_none, map_from}}
 use Rattle.rm_catalog.specs.{Keys.{at, piece_in, place as place_of_id}, Rules.{IsCatalog}, declared.record.PieceEntry.{PieceEntry}}
-use Rattle.rm_catalog.{specs.declared.record.Record.{Record, TheVariants as records}, proofs.{ByKinds.{free-in}, Told.{some_is}}}
+use Rattle.rm_catalog.{specs.declared.record.Record.{Record}, proofs.{ByKinds.{free-in}, Told.{some_is}}}
+use Rattle.rm_catalog.specs.declared.record.Record.TheVariants as records
 use Rattle.rm_evidence.specs.{Available.{HasPieceObject}, Database.{database_in, dbid_in}}
 use Rattle.rm_evidence.specs.{Gathered.{IsGathered, IsPieceAmong, placed, placed_piece}, Known.{FitsPiece}}
 use Rattle.rm_evidence.{specs.declared.evidence.{Evidence.{Evidence}, InPlace.{InPlace}}, proofs.Found.{at-is, obeys}}

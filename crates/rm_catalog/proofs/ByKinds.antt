@@ -4,7 +4,8 @@ use Rattle.std.proofs.Common.{◌≡◌, ◌∙◌, ℕ, eqb, leb, ltb, true, fa
 use Rattle.std.proofs.lemmas.{Bool.{eqb-true, true≢false, Decides.{nat_tests}}, List.Elements.{All-contains, All-cons, All-nil}}
 use Rattle.std.proofs.lemmas.Map.Views.{Contains-from_any}
 use Rattle.rm_catalog.specs.{Keys.{IsThere, place, place_of}, Objects.{IdRule, IsFree, id_kinds}, Rules.{is_lasting}}
-use Rattle.rm_catalog.specs.declared.record.Record.{Record, TheVariants as records}
+use Rattle.rm_catalog.specs.declared.record.Record.{Record}
+use Rattle.rm_catalog.specs.declared.record.Record.TheVariants as records
 
 -- no record of another kind of objects has the id
 pub free-in : (rs : List Record) (kind id other : ℕ) → IdRule rs kind id → list_any (eqb other) id_kinds ≡ true → eqb other kind ≡ false → ¬ IsThere other id rs

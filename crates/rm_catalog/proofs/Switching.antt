@@ -5,8 +5,9 @@ use Rattle.std.proofs.lemmas.{List.{append-nil, take_more, Elements.{filter_map-
 use Rattle.rm_catalog.specs.{Keys.{incarnation, switch, switch_in}, Objects.{owner_in}, Rules.{IsCatalog}}
 use Rattle.rm_catalog.specs.Switches.{IsAt, SwitchRule, applies_in, began_with, last_in, switch_of, switches, told_by, was_enabled}
 use Rattle.rm_catalog.specs.{Trees.{nodes}, declared.record.{IncarnationEntry.{IncarnationEntry}, SwitchEntry.{SwitchEntry}}}
-use Rattle.rm_catalog.{specs.declared.record.Record.{Record, TheVariants as records}, proofs.Numbering.{incarnation-rule, obeys}}
+use Rattle.rm_catalog.{specs.declared.record.Record.{Record}, proofs.Numbering.{incarnation-rule, obeys}}
 use Rattle.rm_catalog.proofs.Telling.{record-told, told-record}
+use Rattle.rm_catalog.specs.declared.record.Record.TheVariants as records
 use Rattle.rm_history.specs.{Tree.{owner}, Threads.{after_switch, applies, is_enabled, is_on, last_switch}}
 use Rattle.rm_history.{specs.declared.{tree.Incarnation.{Incarnation}, world.Switch.{Switch}}, proofs.Enabled.{last-push, last-same}}
 

@@ -9,10 +9,11 @@ use Rattle.rm_catalog.specs.Facts.{BeginsOn, is_mark_of, IsCreatedOn, blocks_to,
 use Rattle.rm_catalog.specs.{Objects.{IdRule, IsRange, id_kinds, owner_in, FitsDatafile}, Saved.{is_part_of}}
 use Rattle.rm_catalog.specs.{Rules.{Obeys, OwnRule, IsOrderOf, IsFirstBad, lasts_below}, SetRules.{FitsSetFile, SetPartRule}}
 use Rattle.rm_catalog.specs.Switches.{IsAt, applies_in, began_with, last_in, leaves_one, stays, switch_of, was_enabled}
-use Rattle.rm_catalog.specs.declared.record.{Key.{Key}, Record.{Record, TheVariants as records}, BaseEntry.{BaseEntry}}
-use Rattle.rm_catalog.specs.declared.record.{IncarnationEntry.{IncarnationEntry}, DatafileEntry.{DatafileEntry}, MarkEntry.{MarkEntry}}
-use Rattle.rm_catalog.{specs.declared.record.{SwitchEntry.{SwitchEntry}, SetPart.{SetPart}}, proofs.Found.{differ}}
-use Rattle.rm_catalog.proofs.{Counts.{alike, alike_count}, Unique.{none_alike, head_or_tail, in_tail, middle}}
+use Rattle.rm_catalog.specs.declared.record.{Key.{Key}, Record.{Record}, BaseEntry.{BaseEntry}, IncarnationEntry.{IncarnationEntry}}
+use Rattle.rm_catalog.specs.declared.record.{DatafileEntry.{DatafileEntry}, MarkEntry.{MarkEntry}, SwitchEntry.{SwitchEntry}}
+use Rattle.rm_catalog.{specs.declared.record.SetPart.{SetPart}, proofs.{Found.{differ}, Counts.{alike, alike_count}}}
+use Rattle.rm_catalog.proofs.Unique.{none_alike, head_or_tail, in_tail, middle}
+use Rattle.rm_catalog.specs.declared.record.Record.TheVariants as records
 use Rattle.rm_history.specs.{Threads.{after_switch, is_last, is_on}, declared.world.Switch.{Switch}}
 
 pub at_here : (r : Record) (rs : List Record) (q : ℕ) → place_of r ≡ q → at q (r ∷ rs) ≡ Some r

@@ -5,13 +5,15 @@ use Rattle.std.proofs.lemmas.{Bool.{cases_lt, false≢true, le-ltb, lt-ltb}, Opt
 use Rattle.std.proofs.lemmas.List.{get_or_default, get_or_at, length-append, length-take, length-map, take-take, take-append-drop, get_or_append_left, get_or-take, drop_more, take_more}
 use Rattle.std.proofs.lemmas.List.Elements.{filter_map-append, All-contains}
 use Rattle.rm_history.specs.Tree.{HasParentsBelow, IsThere, owner, parent_of, reset_of, end_of, incarnation as in_tree}
-use Rattle.rm_history.{specs.declared.tree.Incarnation as tree, proofs.Owners.{owner-step, owner-none}}
+use Rattle.rm_history.proofs.Owners.{owner-step, owner-none}
+use Rattle.rm_history.specs.declared.tree.Incarnation as tree
 use Rattle.rm_catalog.specs.{Keys.{place, place_of, at, InOrder, incarnation, incarnation_in}, Facts.{BaseRule, IncarnationRule, BeginsOn}}
 use Rattle.rm_catalog.specs.{Objects.{owner_in}, Rules.{Obeys, IsCatalog, HasDatabase}, Edits.{below}}
 use Rattle.rm_catalog.specs.{Trees.{node, node_in, nodes, as_tree, known_in, IsNext, BranchInTurn}, declared.record.BaseEntry.{BaseEntry}}
-use Rattle.rm_catalog.specs.declared.record.{IncarnationEntry.{IncarnationEntry}, Record.{Record, TheVariants as records}}
-use Rattle.rm_catalog.proofs.{Found.{differ}, Numbering.{entries, number_is, entry_at, number_there, entry_record, record_entry}}
-use Rattle.rm_catalog.proofs.{Filters.{below_none}, Told.{found_is}}
+use Rattle.rm_catalog.{specs.declared.record.{IncarnationEntry.{IncarnationEntry}, Record.{Record}}, proofs.Found.{differ}}
+use Rattle.rm_catalog.proofs.{Numbering.{entries, number_is, entry_at, number_there, entry_record, record_entry}, Filters.{below_none}}
+use Rattle.rm_catalog.proofs.Told.{found_is}
+use Rattle.rm_catalog.specs.declared.record.Record.TheVariants as records
 
 -- the nodes are the entries
 pub nodes_are : (rs : List Record) → nodes rs ≡ map node (entries rs)

@@ -1,7 +1,8 @@
 -- The tree that the incarnations of the records make.
 use Rattle.std.specs.{Prelude.{◌≡◌, ℕ, ◌<◌, ◌≤◌, Option, Some, None, List, [], ◌∷◌, length, take, slice_get}, List.{filter_map}}
 use Rattle.std.specs.Option.{option_map}
-use Rattle.rm_history.specs.{Tree.{IsThere, reset_of, end_of}, declared.tree.Incarnation as tree}
+use Rattle.rm_history.specs.Tree.{IsThere, reset_of, end_of}
+use Rattle.rm_history.specs.declared.tree.Incarnation as tree
 use Rattle.rm_catalog.specs.{Keys.{incarnation_in}, Rules.{IsCatalog}, declared.record.IncarnationEntry.{IncarnationEntry}}
 use Rattle.rm_catalog.specs.declared.record.Record.{Record, TheVariants.{Incarnation}}
 

@@ -4,9 +4,10 @@ use Rattle.std.proofs.Common.{◌≡◌, ◌∙◌, ℕ, zero, suc, ◌+◌, ◌
 use Rattle.std.proofs.lemmas.{Bool.{cases_eq, cond-false, cond-true, false≢true, ne_eqb}, Option.{cond_some, none-some, same_Some}}
 use Rattle.std.proofs.lemmas.List.Elements.{Contains-get_or}
 use Rattle.rm_catalog.specs.Keys.{IsThere, at, base_in, datafile_in, head_in, incarnation_in, key_of, log_in, mark_in, part_in, piece_in, place, place_of, set_in, switch_in}
-use Rattle.rm_catalog.specs.{Rules.{IsCatalog}, Trees.{node, nodes}, declared.record.Record.{Record, TheVariants as kind}}
-use Rattle.rm_catalog.proofs.{Filters.{filter_none}, Told.{found_is}, Unique.{Rises, all_above}, Numbering.{number_is, rises_catalog}}
-use Rattle.rm_catalog.proofs.{Trees.{nodes_are}, Telling.{told-ascends, told-record}}
+use Rattle.rm_catalog.{specs.{Rules.{IsCatalog}, Trees.{node, nodes}, declared.record.Record.{Record}}, proofs.Filters.{filter_none}}
+use Rattle.rm_catalog.proofs.{Told.{found_is}, Unique.{Rises, all_above}, Numbering.{number_is, rises_catalog}, Trees.{nodes_are}}
+use Rattle.rm_catalog.proofs.Telling.{told-ascends, told-record}
+use Rattle.rm_catalog.specs.declared.record.Record.TheVariants as kind
 use Rattle.rm_catalog_typed.specs.{Ledger.{numbered, incarnation_record, datafile_record}, Kinds.{by_kind}}
 use Rattle.rm_evidence.{specs.Database.{created_by, datafiles}, proofs.Files.{datafiles-are, file-number}}
 

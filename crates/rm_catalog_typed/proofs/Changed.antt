@@ -9,8 +9,9 @@ use Rattle.rm_history.specs.declared.world.Datafile.{Datafile}
 use Rattle.rm_catalog.specs.{Edits.{above, after_edit, after_edits, below, place_of_edit}, Keys.{place, place_of, place_of_key}}
 use Rattle.rm_catalog.specs.declared.record.{BaseEntry.{BaseEntry}, Edit.{Edit, TheVariants.{Put, Drop}}, HeadEntry.{HeadEntry}, Key.{Key}}
 use Rattle.rm_catalog.specs.declared.record.{LogEntry.{LogEntry}, PartEntry.{PartEntry}, PieceEntry.{PieceEntry}, Record.{Record}}
-use Rattle.rm_catalog.specs.declared.record.{Record.TheVariants as kind, SetEntry.{SetEntry}}
+use Rattle.rm_catalog.specs.declared.record.SetEntry.{SetEntry}
 use Rattle.rm_catalog.proofs.Filters.{above_all, above_append, above_none, after_both, below_none}
+use Rattle.rm_catalog.specs.declared.record.Record.TheVariants as kind
 use Rattle.rm_catalog_typed.specs.Ledger.{incarnation_record, datafile_record, mark_record, switch_record}
 use Rattle.rm_catalog_typed.specs.Changes.{EditsFollow, higher, lower, with_base, with_end_at, with_file, with_incarnation, with_log, with_mark, with_new_log, with_new_piece, with_new_set, with_one, with_piece, with_set, with_switch, without_log, without_one, without_piece, without_set, part_drop, saved_edits, unsaved_edits, with_saved, without_saved}
 use Rattle.rm_catalog_typed.specs.Facts.{IsTypedCatalog, IsSaved}

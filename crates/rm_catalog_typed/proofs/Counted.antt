@@ -5,8 +5,9 @@ use Rattle.std.proofs.lemmas.{Option.{slice_get-get_or}, List.{Folds.{list_any_a
 use Rattle.rm_base.specs.declared.block.Mark.{Mark}
 use Rattle.rm_history.specs.declared.world.Datafile.{Datafile}
 use Rattle.rm_catalog.specs.{Keys.{place, place_of}, Facts.{is_mark_of, blocks_to}, Rules.{IsOnce, IsAmongFirst, lasts_below}}
-use Rattle.rm_catalog.{specs.declared.record.Record.{Record, TheVariants as kind}, proofs.{Found.{differ}, Counts.{alike, alike_count}}}
+use Rattle.rm_catalog.{specs.declared.record.Record.{Record}, proofs.{Found.{differ}, Counts.{alike, alike_count}}}
 use Rattle.rm_catalog.proofs.Unique.{Rises, all_above}
+use Rattle.rm_catalog.specs.declared.record.Record.TheVariants as kind
 use Rattle.rm_catalog_typed.specs.Ledger.{Ledger, front_records, back_records, ledger_records, numbered, incarnation_record, datafile_record, mark_record, switch_record}
 use Rattle.rm_catalog_typed.specs.LedgerFacts.{IsLedger, HasMark}
 use Rattle.rm_catalog_typed.proofs.Order.{records-rise, incarnations_of, datafiles_of, logs_of, pieces_of, marks_of, sets_of, switch_records}

@@ -6,7 +6,8 @@ use Rattle.std.proofs.lemmas.List.Elements.{All-contains, All-push, All-weaker, 
 use Rattle.std.proofs.lemmas.List.{Quantifiers.{all_pairs_push}, Sums.{sum_by-append, sum_by-cons}}
 use Rattle.rm_base.specs.{Numbers.{last_moment, last_scn}, declared.block.Mark.{Mark}}
 use Rattle.rm_catalog.specs.declared.record.{BaseEntry.{BaseEntry}, LogEntry.{LogEntry}, PartEntry.{PartEntry}, PieceEntry.{PieceEntry}}
-use Rattle.rm_catalog.specs.declared.record.{Record.TheVariants as kind, SetEntry.{SetEntry}}
+use Rattle.rm_catalog.specs.declared.record.SetEntry.{SetEntry}
+use Rattle.rm_catalog.specs.declared.record.Record.TheVariants as kind
 use Rattle.rm_history.specs.{Tree.{IsThere, parent_of, reset_of, end_of, with_branch, with_end}, declared.tree.Incarnation.{Incarnation}}
 use Rattle.rm_history.specs.declared.world.Datafile.{Datafile}
 use Rattle.rm_history.proofs.Branches.{IsThere-branched, end_of-branched, end_of-with_branch, length-with_branch, parent_of-branched, parent_of-with_branch, reset_of-branched, reset_of-with_branch}

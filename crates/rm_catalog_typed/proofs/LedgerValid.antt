@@ -1,7 +1,8 @@
 -- The records of a ledger are a catalog's.
 use Rattle.std.proofs.{Common.{get_or, sym, subst}, lemmas.List.Elements.{Contains-get_or}}
 use Rattle.rm_catalog.specs.{Facts.{BaseRule, DatafileRule, MarkRule}, Rules.{OwnRule, IsCatalog}, Switches.{SwitchRule}}
-use Rattle.rm_catalog.specs.declared.record.Record.{Record, TheVariants as kind}
+use Rattle.rm_catalog.specs.declared.record.Record.{Record}
+use Rattle.rm_catalog.specs.declared.record.Record.TheVariants as kind
 use Rattle.rm_catalog_typed.{specs.{Ledger.{Ledger, ledger_records}, LedgerFacts.{IsLedger}}, proofs.Order.{records-order}}
 use Rattle.rm_catalog_typed.proofs.{Lookups.{IsOwn, record-own, has-database}, Counted.{record-once, record-few}}
 use Rattle.rm_catalog_typed.proofs.LedgerThings.{base-rule, incarnation-rule, datafile-rule, mark-rule, switch-rule}

@@ -9,8 +9,8 @@ use Rattle.rm_history.specs.declared.world.Datafile.{Datafile}
 use Rattle.rm_catalog.specs.Keys.{place, place_of, at, incarnation, datafile, mark, incarnation_in, datafile_in, log_in, mark_in, part_in, piece_in, set_in, switch_in, IsThere as HasKey}
 use Rattle.rm_catalog.specs.declared.record.{BaseEntry.{BaseEntry}, DatafileEntry.{DatafileEntry}, IncarnationEntry.{IncarnationEntry}}
 use Rattle.rm_catalog.specs.declared.record.{LogEntry.{LogEntry}, MarkEntry.{MarkEntry}, PieceEntry.{PieceEntry}, Record.{Record}}
-use Rattle.rm_catalog.specs.declared.record.{SetEntry.{SetEntry}, SwitchEntry.{SwitchEntry}, Record.TheVariants as kind}
-use Rattle.rm_catalog.proofs.Unique.{in_tail}
+use Rattle.rm_catalog.{specs.declared.record.{SetEntry.{SetEntry}, SwitchEntry.{SwitchEntry}}, proofs.Unique.{in_tail}}
+use Rattle.rm_catalog.specs.declared.record.Record.TheVariants as kind
 use Rattle.rm_catalog_typed.specs.Ledger.{Ledger, front_records, back_records, ledger_records, numbered, incarnation_record, datafile_record, mark_record, switch_record}
 use Rattle.rm_catalog_typed.specs.{LedgerFacts.{IsLedger}, declared.thread_switch.ThreadSwitch.{ThreadSwitch}}
 use Rattle.rm_catalog_typed.proofs.ByKind.{IsKind, is-incarnation, is-log, is-part, is-piece, is-set, is-switch, placed}

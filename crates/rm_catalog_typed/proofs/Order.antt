@@ -2,8 +2,9 @@
 use Rattle.std.specs.{Prelude.{Contains, Some}, List.{AllPairs}}
 use Rattle.std.proofs.Common.{◌≡◌, ◌∙◌, ℕ, zero, suc, ◌+◌, ◌<◌, ◌≤◌, List, [], ◌∷◌, ◌++◌, length, get_or, map, All, refl, ap, arith}
 use Rattle.std.proofs.lemmas.List.{length-append, Elements.{Contains-get_or}}
-use Rattle.rm_catalog.specs.{Keys.{place, place_of, at, InOrder}, declared.record.Record.{Record, TheVariants as kind}}
-use Rattle.rm_catalog.proofs.{Unique.{Rises, all_above}, Told.{at_here, at_past}}
+use Rattle.rm_catalog.{specs.{Keys.{place, place_of, at, InOrder}, declared.record.Record.{Record}}, proofs.Unique.{Rises, all_above}}
+use Rattle.rm_catalog.proofs.Told.{at_here, at_past}
+use Rattle.rm_catalog.specs.declared.record.Record.TheVariants as kind
 use Rattle.rm_catalog_typed.specs.Ledger.{Ledger, front_records, back_records, ledger_records, numbered, incarnation_record, datafile_record, mark_record, switch_record}
 use Rattle.rm_catalog_typed.specs.LedgerFacts.{IsLedger}
 

@@ -1,6 +1,7 @@
 -- What records say, with one record more.
 use Rattle.std.proofs.{Common.{◌≡◌, List, [], ◌∷◌, ◌++◌}, lemmas.List.{append-nil, map-append, Elements.{filter_map-append}}}
-use Rattle.rm_catalog.specs.declared.record.Record.{Record, TheVariants as records}
+use Rattle.rm_catalog.specs.declared.record.Record.{Record}
+use Rattle.rm_catalog.specs.declared.record.Record.TheVariants as records
 use Rattle.rm_catalog_typed.specs.Kinds.{told_by, with_record}
 
 pub told-more : (xs : List Record) (r : Record) → told_by (xs ++ r ∷ []) ≡ with_record r (told_by xs)

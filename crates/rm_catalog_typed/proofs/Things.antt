@@ -9,8 +9,8 @@ use Rattle.rm_catalog.specs.{Keys.{base, datafile, log_in, piece_in, place, set_
 use Rattle.rm_catalog.specs.{Objects.{IsRange, FitsDatafile}, Rules.{IsCatalog}, SetRules.{FitsSetFile, SetPartRule}, Trees.{nodes}}
 use Rattle.rm_catalog.specs.declared.record.{BaseEntry.{BaseEntry}, DatafileEntry.{DatafileEntry}, LogEntry.{LogEntry}}
 use Rattle.rm_catalog.specs.declared.record.{MarkEntry.{MarkEntry}, PieceEntry.{PieceEntry}, Record.{Record}, SetEntry.{SetEntry}}
-use Rattle.rm_catalog.{specs.declared.record.{SetPart.{SetPart}, Record.TheVariants as records}, proofs.ByKinds.{free-in}}
-use Rattle.rm_catalog.proofs.{Trees.{path_is}, Telling.{record-told}}
+use Rattle.rm_catalog.{specs.declared.record.SetPart.{SetPart}, proofs.{ByKinds.{free-in}, Trees.{path_is}, Telling.{record-told}}}
+use Rattle.rm_catalog.specs.declared.record.Record.TheVariants as records
 use Rattle.rm_evidence.{specs.Database.{created_by, datafiles}, proofs.Files.{entries, datafiles-are, entry-is}}
 use Rattle.rm_evidence.proofs.{Found.{datafile-rule, datafile-there}, DatabaseWorlds.{entry-of}}
 use Rattle.rm_catalog_typed.specs.LedgerFacts.{AreIds, AreMarks, HasMark, IsBase, IsLogEntry, IsMark, IsPieceEntry, IsSetEntry, IsSetPart, Rise}

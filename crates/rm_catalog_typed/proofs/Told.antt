@@ -6,10 +6,12 @@ use Rattle.rm_catalog.specs.Keys.{at, base, base_in, head_in, incarnation, incar
 use Rattle.rm_catalog.specs.{Facts.{BaseRule}, Objects.{LogRule, PieceRule}, Saved.{HeadRule, PartRule}, SetRules.{SetRule}}
 use Rattle.rm_catalog.specs.{Rules.{IsCatalog}, Trees.{nodes}, declared.record.{BaseEntry.{BaseEntry}, HeadEntry.{HeadEntry}}}
 use Rattle.rm_catalog.specs.declared.record.{IncarnationEntry.{IncarnationEntry}, LogEntry.{LogEntry}, PartEntry.{PartEntry}}
-use Rattle.rm_catalog.specs.declared.record.{PieceEntry.{PieceEntry}, Record.{Record, TheVariants as records}, SetEntry.{SetEntry}}
-use Rattle.rm_catalog.proofs.{Told.{found_is}, Trees.{in_tree_is}}
+use Rattle.rm_catalog.{specs.declared.record.{PieceEntry.{PieceEntry}, Record.{Record}, SetEntry.{SetEntry}}, proofs.Told.{found_is}}
+use Rattle.rm_catalog.proofs.Trees.{in_tree_is}
+use Rattle.rm_catalog.specs.declared.record.Record.TheVariants as records
 use Rattle.rm_base.proofs.Members.{first-or-rest, none-in}
-use Rattle.rm_history.specs.{Tree.{IsThere, reset_of, end_of}, declared.tree.Incarnation as tree}
+use Rattle.rm_history.specs.Tree.{IsThere, reset_of, end_of}
+use Rattle.rm_history.specs.declared.tree.Incarnation as tree
 use Rattle.rm_evidence.proofs.{Found.{at-is, obeys}, DatabaseWorlds.{found-there, reset-is}}
 use Rattle.rm_catalog_typed.proofs.ByKind.{is-base, is-head, is-incarnation, is-log, is-part, is-piece, is-set, made, placed, told-in-order, told-is}
 

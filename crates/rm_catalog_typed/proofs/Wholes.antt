@@ -3,8 +3,8 @@ use Rattle.std.specs.{Prelude.{option_and_then}, List.{filter_map}}
 use Rattle.std.proofs.Common.{◌≡◌, ◌∙◌, ◌<◌, ◌≤◌, List, [], ◌∷◌, length, Some, None, refl, ap, sym, subst, arith, Contains, slice_get}
 use Rattle.std.proofs.lemmas.Option.{slice_get_within, get_or_from_slice_get}
 use Rattle.rm_catalog.specs.{Keys.{base, base_in}, Rules.{HasDatabase, IsCatalog}, Trees.{as_tree, nodes}}
-use Rattle.rm_catalog.{specs.declared.record.{BaseEntry.{BaseEntry}, Record.{Record, TheVariants as records}}, proofs.Trees.{some_node}}
-use Rattle.rm_catalog.proofs.Telling.{record-told}
+use Rattle.rm_catalog.{specs.declared.record.{BaseEntry.{BaseEntry}, Record.{Record}}, proofs.{Trees.{some_node}, Telling.{record-told}}}
+use Rattle.rm_catalog.specs.declared.record.Record.TheVariants as records
 use Rattle.rm_history.specs.declared.tree.Incarnation.{Incarnation}
 use Rattle.rm_evidence.proofs.Found.{at-is, obeys}
 use Rattle.rm_base.proofs.Members.{in-front, none-in}

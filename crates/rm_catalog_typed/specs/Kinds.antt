@@ -4,7 +4,8 @@ use Rattle.rm_base.specs.declared.block.Mark.{Mark}
 use Rattle.rm_catalog.specs.Keys.{base_in, datafile_in, head_in, incarnation_in, log_in, mark_in, part_in, piece_in, set_in, switch_in}
 use Rattle.rm_catalog.specs.{Trees.{nodes}, declared.record.{BaseEntry.{BaseEntry}, HeadEntry.{HeadEntry}, LogEntry.{LogEntry}}}
 use Rattle.rm_catalog.specs.declared.record.{MarkEntry.{MarkEntry}, PartEntry.{PartEntry}, PieceEntry.{PieceEntry}, Record.{Record}}
-use Rattle.rm_catalog.specs.declared.record.{SetEntry.{SetEntry}, SwitchEntry.{SwitchEntry}, Record.TheVariants as kind}
+use Rattle.rm_catalog.specs.declared.record.{SetEntry.{SetEntry}, SwitchEntry.{SwitchEntry}}
+use Rattle.rm_catalog.specs.declared.record.Record.TheVariants as kind
 use Rattle.rm_history.specs.declared.world.Datafile.{Datafile}
 use Rattle.rm_catalog_typed.specs.{Ledger.{Ledger}, TypedCatalog.{TypedCatalog, Saved}, declared.thread_switch.ThreadSwitch.{ThreadSwitch}}
 use Rattle.rm_evidence.specs.Database.{created_by, datafiles}

@@ -2,7 +2,8 @@
 use Rattle.std.specs.Prelude.{ℕ, ◌+◌, List, [], ◌∷◌, ◌++◌, map}
 use Rattle.rm_base.specs.declared.block.Mark.{Mark}
 use Rattle.rm_catalog.specs.declared.record.{BaseEntry.{BaseEntry}, LogEntry.{LogEntry}, PieceEntry.{PieceEntry}, Record.{Record}}
-use Rattle.rm_catalog.specs.declared.record.{SetEntry.{SetEntry}, Record.TheVariants as kind}
+use Rattle.rm_catalog.specs.declared.record.SetEntry.{SetEntry}
+use Rattle.rm_catalog.specs.declared.record.Record.TheVariants as kind
 use Rattle.rm_history.specs.declared.{tree.Incarnation.{Incarnation}, world.Datafile.{Datafile}}
 use Rattle.rm_catalog_typed.specs.declared.thread_switch.ThreadSwitch.{ThreadSwitch}
 

@@ -1,6 +1,7 @@
 -- The records of a database and of its saved site, told kind by kind.
 use Rattle.std.specs.Prelude.{List, [], ◌∷◌, ◌++◌, Option, None, Some, map}
-use Rattle.rm_catalog.specs.declared.record.{HeadEntry.{HeadEntry}, PartEntry.{PartEntry}, Record.{Record, TheVariants as kind}}
+use Rattle.rm_catalog.specs.declared.record.{HeadEntry.{HeadEntry}, PartEntry.{PartEntry}, Record.{Record}}
+use Rattle.rm_catalog.specs.declared.record.Record.TheVariants as kind
 use Rattle.rm_catalog_typed.specs.Ledger.{Ledger, front_records, back_records}
 
 -- a saved site

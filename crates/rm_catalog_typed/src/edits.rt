@@ -1,6 +1,7 @@
 //! Edits, added where there is room.
 ghost use Rattle.std.specs.{Prelude.{◌≡◌, ◌≤◌, ◌<◌, ◌+◌, [], ◌∷◌, ◌++◌, length, map}, Vec.{vec_len, vec_capacity}};
-ghost use Rattle.rm_catalog.specs.declared.record.{Edit.TheVariants.{Put}, Record.TheVariants as kind};
+ghost use Rattle.rm_catalog.specs.declared.record.Edit.TheVariants.{Put};
+ghost use Rattle.rm_catalog.specs.declared.record.Record.TheVariants as kind;
 ghost use Rattle.rm_catalog_typed.specs.Changes.{part_drop};
 
 use rm_catalog::{Edit, Key, PartEntry, Record};

@@ -1,7 +1,8 @@
 //! What the definitions of a typed catalog mean.
 ghost use Rattle.std.specs.Prelude.{◌≡◌, ◌≤◌, ◌↔◌, Contains, List, Some};
 ghost use Rattle.rm_catalog.specs.{Keys.{base}, Rules.{IsCatalog}, declared.record.{BaseEntry.{BaseEntry}, LogEntry.{LogEntry}}};
-ghost use Rattle.rm_catalog.specs.declared.record.{PieceEntry.{PieceEntry}, Record.{Record, TheVariants as kind}, SetEntry.{SetEntry}};
+ghost use Rattle.rm_catalog.specs.declared.record.{PieceEntry.{PieceEntry}, Record.{Record}, SetEntry.{SetEntry}};
+ghost use Rattle.rm_catalog.specs.declared.record.Record.TheVariants as kind;
 ghost use Rattle.rm_catalog_typed.specs.{Facts.{IsTypedCatalog}, Kinds.{AreSmall, typed_catalog_in}};
 ghost use Rattle.rm_catalog_typed.specs.TypedCatalog.{TypedCatalog, records_of};
 

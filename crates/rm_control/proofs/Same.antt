@@ -2,11 +2,13 @@
 use Rattle.std.specs.{Bool.{Decides}, Cmp.{booleans_Decides, Lexicographic.{pointwise, pointwise_decides}}}
 use Rattle.std.proofs.{Common.{◌≡◌, ℕ, List, nat_eq, rules}, lemmas.Bool.Decides.{Decides-and, Decides-eqb, Decides-like}}
 use Rattle.std.proofs.lemmas.Slice.Eq.{bytes_eq-Decides}
-use Rattle.rm_base.specs.{contracts.kinds.{KindPartialEq.TheImpl as kind, StatusPartialEq.TheImpl as status}, declared.kinds.Kind.{Kind}}
-use Rattle.rm_base.specs.declared.kinds.Status.{Status}
-use Rattle.rm_catalog.specs.contracts.record.{SetPartPartialEq.TheImpl as part, PieceEntryPartialEq.TheImpl as piece}
-use Rattle.rm_catalog.specs.{contracts.record.SetEntryPartialEq.TheImpl as set, declared.record.SetPart.{SetPart}}
-use Rattle.rm_catalog.specs.declared.record.{PieceEntry.{PieceEntry}, SetEntry.{SetEntry}}
+use Rattle.rm_base.specs.declared.kinds.{Kind.{Kind}, Status.{Status}}
+use Rattle.rm_base.specs.contracts.kinds.KindPartialEq.TheImpl as kind
+use Rattle.rm_base.specs.contracts.kinds.StatusPartialEq.TheImpl as status
+use Rattle.rm_catalog.specs.declared.record.{SetPart.{SetPart}, PieceEntry.{PieceEntry}, SetEntry.{SetEntry}}
+use Rattle.rm_catalog.specs.contracts.record.SetPartPartialEq.TheImpl as part
+use Rattle.rm_catalog.specs.contracts.record.PieceEntryPartialEq.TheImpl as piece
+use Rattle.rm_catalog.specs.contracts.record.SetEntryPartialEq.TheImpl as set
 
 text_decides : (a b : List ℕ) → Decides (pointwise nat_eq a b) (a ≡ b)
 text_decides a b = bytes_eq-Decides a b

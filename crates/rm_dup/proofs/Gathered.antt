@@ -12,7 +12,8 @@ use Rattle.rm_catalog_typed.proofs.{Members.{log-in, piece-has, piece-in, set-in
 use Rattle.rm_evidence.specs.{Available.{HasPieceObject}, Database.{database_in, dbid_in, world_of}}
 use Rattle.rm_evidence.specs.{Gathered.{IsBaseOf, IsGathered, IsLevel1Of, IsLogOf, IsPieceAmong, placed, placed_piece}, Known.{known_of}}
 use Rattle.rm_evidence.specs.declared.evidence.Evidence.{Evidence}
-use Rattle.rm_history.specs.{Artefacts as artefact, declared.world.World.{World}}
+use Rattle.rm_history.specs.declared.world.World.{World}
+use Rattle.rm_history.specs.Artefacts as artefact
 use Rattle.rm_piece.specs.{Artefacts.{base_of, level1_of}, Spelling.{spelling}, Valid.{IsPiece}, declared.piece.Piece.{Piece}}
 use Rattle.rm_piece.proofs.Fitting.{spelling_same}
 use Rattle.rm_redo.specs.{LogFile.{log_of}, declared.log_file.LogFile.{LogFile}}

@@ -1,6 +1,7 @@
 //! The records of a duplicate.
 ghost use Rattle.std.specs.Prelude.{◌≡◌, ◌≤◌, ◌++◌, All, IfOk, OnOk, length, map};
-ghost use Rattle.rm_catalog.specs.{Rules.{HasDatabase}, Switches.{began_with}, declared.record.Record.TheVariants as kind};
+ghost use Rattle.rm_catalog.specs.{Rules.{HasDatabase}, Switches.{began_with}};
+ghost use Rattle.rm_catalog.specs.declared.record.Record.TheVariants as kind;
 ghost use Rattle.rm_catalog_typed.specs.{Ledger.{datafile_record, numbered}, TypedCatalog.{records_of}};
 ghost use Rattle.rm_evidence.specs.Database.{world_of};
 ghost use Rattle.rm_piece.specs.Valid.{IsPiece};

@@ -2,8 +2,9 @@
 use Rattle.std.proofs.{Common.{◌≡◌, ℕ, List, refl, subst, sym, Contains, length}, lemmas.List.Elements.{All-contains}}
 use Rattle.rm_base.{specs.declared.block.{Block.{Block}, Change.{Change}, Row.{Row}}, proofs.Lists.{map_from}}
 use Rattle.rm_evidence.specs.{Known.{FitsLog, FitsPiece, FitsTree, known_of}, declared.evidence.Evidence.{Evidence}}
-use Rattle.rm_history.specs.{Artefacts as artefact, Known.{HasChange, HasRow, Seen, by_creation, by_log, by_row, in_base, in_level1}}
+use Rattle.rm_history.specs.Known.{HasChange, HasRow, Seen, by_creation, by_log, by_row, in_base, in_level1}
 use Rattle.rm_history.specs.declared.{tree.Incarnation.{Incarnation}, world.World.{World}}
+use Rattle.rm_history.specs.Artefacts as artefact
 use Rattle.rm_piece.specs.{Artefacts.{base_of, level1_of}, Valid.{IsRow}, declared.piece.Piece.{Piece}}
 use Rattle.rm_redo.specs.{LogFile.{log_of}, LogFormat.{IsLogRecord}, declared.{log_file.LogFile.{LogFile}, online.LogRecord.{LogRecord}}}
 

@@ -6,8 +6,8 @@ use Rattle.rm_catalog.specs.{Facts.{BeginsOn, IncarnationRule, IsCreatedOn}, Key
 use Rattle.rm_catalog.specs.{Trees.{nodes}, declared.record.{DatafileEntry.{DatafileEntry}, IncarnationEntry.{IncarnationEntry}}}
 use Rattle.rm_catalog.{specs.declared.record.Record.{Record}, proofs.Numbering.{entries, entry_at, number_is, number_there}}
 use Rattle.rm_catalog.proofs.{Switching.{switch-late}, Trees.{length_nodes, parents_below, some_node, few_nodes, in_tree_is}}
-use Rattle.rm_history.specs.{Tree.{IsThere, IsTree, end_of, parent_of, reset_of}, World.{file_of}, declared.tree.Incarnation as tree}
-use Rattle.rm_history.specs.declared.world.Datafile.{Datafile}
+use Rattle.rm_history.specs.{Tree.{IsThere, IsTree, end_of, parent_of, reset_of}, World.{file_of}, declared.world.Datafile.{Datafile}}
+use Rattle.rm_history.specs.declared.tree.Incarnation as tree
 use Rattle.rm_evidence.{specs.Database.{created_by, world_of, IsCreated, IsSoundWorld}, proofs.Files.{file_of-is}}
 use Rattle.rm_evidence.proofs.{Found.{datafile-there, datafile-rule, incarnation-rule}, Switching.{one-switch}}
 

@@ -5,7 +5,8 @@ use Rattle.std.proofs.lemmas.{List.Elements.{All-append, All-cons, All-contains,
 use Rattle.rm_base.specs.{Store.{Held}, declared.{block.Row.{Row}, kinds.Kind.TheVariants.{Level1}}}
 use Rattle.rm_blocks.specs.File.{IsInOrder}
 use Rattle.rm_catalog.specs.{Objects.{IsRange, LogRule, PieceRule}, Rules.{IsCatalog}, SetRules.{SetPartRule, SetRule}, Trees.{nodes}}
-use Rattle.rm_catalog.specs.declared.record.{Record.{Record, TheVariants as kind}, SetEntry.{SetEntry}, SetPart.{SetPart}}
+use Rattle.rm_catalog.specs.declared.record.{Record.{Record}, SetEntry.{SetEntry}, SetPart.{SetPart}}
+use Rattle.rm_catalog.specs.declared.record.Record.TheVariants as kind
 use Rattle.rm_history.specs.{Tree.{IsThere}, declared.world.Datafile.{Datafile}}
 use Rattle.rm_evidence.specs.Database.{Database, database_in, datafiles, dbid_in}
 use Rattle.rm_evidence.specs.Gathered.{placed, placed_piece, ById, ByIdAndFile, IsBaseOf, IsGathered, IsLevel1Of, IsLogOf, IsPieceAmong, ListsBy}

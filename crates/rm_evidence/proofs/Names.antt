@@ -2,7 +2,8 @@
 use Rattle.std.specs.{Fmt.{decimal}, Prelude.{codes}}
 use Rattle.std.proofs.Common.{◌≡◌, ◌≢◌, ◌∙◌, ℕ, ◌<◌, ◌^◌, Bool, true, false, List, Some, get_or, refl, sym, ap, arith}
 use Rattle.std.proofs.lemmas.{Fmt.{decimal_injective}, List.{append_cancel_left}, Option.{same_Some}}
-use Rattle.rm_catalog.specs.{Keys.{key_of}, declared.record.Record.{Record, TheVariants as kind}}
+use Rattle.rm_catalog.specs.{Keys.{key_of}, declared.record.Record.{Record}}
+use Rattle.rm_catalog.specs.declared.record.Record.TheVariants as kind
 use Rattle.rm_evidence.specs.Names.{log_name, object_id, object_name, piece_name, roll_name, set_name, site_name}
 
 -- names that differ in a byte are not the same

@@ -4,8 +4,9 @@ use Rattle.std.proofs.lemmas.List.{get_or_default, get_or-take, length-take, Ele
 use Rattle.std.proofs.lemmas.Option.{same_Some}
 use Rattle.rm_base.{specs.{Store.{Held}, declared.kinds.Bad.{Bad}}, proofs.Members.{none-in}}
 use Rattle.rm_catalog.specs.{Keys.{place, place_of}, Objects.{LogRule, PieceRule}, Rules.{IsCatalog}, declared.record.LogEntry.{LogEntry}}
-use Rattle.rm_catalog.specs.declared.record.{PieceEntry.{PieceEntry}, SetEntry.{SetEntry}, Record.{Record, TheVariants as kind}}
-use Rattle.rm_catalog.proofs.{ByKinds.{free-in}, Numbering.{rises_catalog}, Told.{some_is}, Unique.{Rises, all_above}}
+use Rattle.rm_catalog.{specs.declared.record.{PieceEntry.{PieceEntry}, SetEntry.{SetEntry}, Record.{Record}}, proofs.ByKinds.{free-in}}
+use Rattle.rm_catalog.proofs.{Numbering.{rises_catalog}, Told.{some_is}, Unique.{Rises, all_above}}
+use Rattle.rm_catalog.specs.declared.record.Record.TheVariants as kind
 use Rattle.rm_piece.specs.declared.piece.Piece.{Piece}
 use Rattle.rm_redo.specs.declared.log_file.LogFile.{LogFile}
 use Rattle.rm_evidence.specs.{Available.{IsSkippedAmong}, Database.{Database, database_in, dbid_in}}

@@ -4,7 +4,8 @@ use Rattle.std.proofs.Common.{◌≡◌, ◌≢◌, ◌∙◌, ◌<◌, ℕ, ◌
 use Rattle.std.proofs.lemmas.{Bool.{cond-true, cond-false, false_from_ne_true}, Option.{same_Some}, Slice.Eq.{bytes_eq-Decides}}
 use Rattle.rm_base.specs.{Store.{Held}, declared.kinds.Bad.{Bad}}
 use Rattle.rm_catalog.specs.{Keys.{key_of}, Rules.{IsCatalog}, declared.record.{LogEntry.{LogEntry}, PieceEntry.{PieceEntry}}}
-use Rattle.rm_catalog.specs.declared.record.{SetEntry.{SetEntry}, Record.{Record, TheVariants as kind}}
+use Rattle.rm_catalog.specs.declared.record.{SetEntry.{SetEntry}, Record.{Record}}
+use Rattle.rm_catalog.specs.declared.record.Record.TheVariants as kind
 use Rattle.rm_evidence.specs.{Available.{IsBad, IsSkippedAmong, a_log, a_piece, a_set}, Database.{Database}}
 use Rattle.rm_evidence.specs.Gathered.{ById, ByIdAndFile, IsBaseAmong, IsLevel1Among, IsLogOf, IsPieceAmong}
 use Rattle.rm_evidence.specs.{Names.{log_name, object_id, object_name, piece_name, set_name}, Seen.{IsSeen}, Taking.{Adds, HasId, IsTold}}

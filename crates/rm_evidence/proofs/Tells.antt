@@ -3,7 +3,8 @@ use Rattle.std.specs.Prelude.{Ok, Err, IfSome}
 use Rattle.std.proofs.Common.{◌≡◌, ◌∙◌, ◌<◌, ◌≤◌, ◌+◌, ℕ, suc, Option, Some, None, List, [], ◌∷◌, ◌++◌, zero, append_assoc, drop, drop-cons, length-append, get_or, map, slice_get, take, refl, ap, sym, subst, arith, length}
 use Rattle.std.proofs.lemmas.List.{append-nil, get_or-map, length-map, map-append, take_more}
 use Rattle.rm_base.specs.Store.{Held}
-use Rattle.rm_catalog.specs.declared.record.Record.{Record, TheVariants as kind}
+use Rattle.rm_catalog.specs.declared.record.Record.{Record}
+use Rattle.rm_catalog.specs.declared.record.Record.TheVariants as kind
 use Rattle.rm_evidence.specs.{Database.{Database}, Objects.{IsLogObject, IsPieceObject, IsSetObject}, Seen.{IsSeen}, Taking.{Adds, IsTold}}
 use Rattle.rm_evidence.specs.Telling.{AreTold, StandUnder, StandsUnder, TellAll, Tells, TellsAt, stands_in, with_artefact, with_told}
 use Rattle.rm_evidence.specs.declared.{evidence.Evidence.{Evidence}, telling.Told.{Told, TheVariants.{Nothing, OfLog, OfPiece, OfSet}}}

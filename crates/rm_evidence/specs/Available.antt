@@ -5,7 +5,8 @@ use Rattle.rm_catalog.specs.declared.record.{LogEntry.{LogEntry}, PieceEntry.{Pi
 use Rattle.rm_catalog.specs.declared.record.SetEntry.{SetEntry}
 use Rattle.rm_evidence.specs.{Database.{Database, database_in}, Names.{log_name, piece_name, set_name}}
 use Rattle.rm_evidence.specs.Objects.{IsLogObject, IsPieceObject, IsSetObject}
-use Rattle.rm_piece.specs.declared.{piece as artefact, set as sets}
+use Rattle.rm_piece.specs.declared.piece as artefact
+use Rattle.rm_piece.specs.declared.set as sets
 use Rattle.rm_redo.specs.declared.log_file.LogFile.{LogFile}
 
 -- the record is one of a log that counts as available, and the store has its log

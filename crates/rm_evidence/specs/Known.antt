@@ -1,10 +1,11 @@
 -- The artefacts of the evidence, and which evidence fits a database.
 use Rattle.std.specs.Prelude.{ℕ, ◌≡◌, ◌≢◌, ◌<◌, ◌⊎◌, ◌-◌, List, slice_get, map, All, Contains, IsSomeAnd}
 use Rattle.rm_base.specs.declared.kinds.Kind.TheVariants.{Level1}
-use Rattle.rm_catalog.specs.declared.record.{PieceEntry.{PieceEntry}, Record.{Record, TheVariants as kind}, SetEntry.{SetEntry}}
-use Rattle.rm_catalog.specs.declared.record.SetPart.{SetPart}
+use Rattle.rm_catalog.specs.declared.record.{PieceEntry.{PieceEntry}, Record.{Record}, SetEntry.{SetEntry}, SetPart.{SetPart}}
+use Rattle.rm_catalog.specs.declared.record.Record.TheVariants as kind
 use Rattle.rm_evidence.specs.{Database.{datafiles}, Objects.{HasPieceFields}, declared.evidence.Evidence.{Evidence}}
-use Rattle.rm_history.specs.{Evidence as known, Tree.{IsThere}, declared.tree.Incarnation.{Incarnation}}
+use Rattle.rm_history.specs.{Tree.{IsThere}, declared.tree.Incarnation.{Incarnation}}
+use Rattle.rm_history.specs.Evidence as known
 use Rattle.rm_piece.specs.{Artefacts.{base_of, level1_of}, Valid.{IsPiece}, declared.piece.Piece.{Piece}}
 use Rattle.rm_redo.specs.{LogFile.{log_of}, LogFormat.{IsLogFile}, declared.log_file.LogFile.{LogFile}}
 

@@ -5,9 +5,11 @@ use Rattle.rm_base.specs.declared.kinds.Status.TheVariants.{Available}
 use Rattle.rm_catalog.specs.declared.record.{LogEntry.{LogEntry}, PieceEntry.{PieceEntry}, SetEntry.{SetEntry}, SetPart.{SetPart}}
 use Rattle.rm_evidence.specs.Database.{Database}
 use Rattle.rm_history.specs.declared.world.Datafile.{Datafile}
-use Rattle.rm_piece.specs.{Spelling as piece, SetSpelling.{set_spelling, spelled}, Sets.{IsSet}, Valid.{IsPiece}}
-use Rattle.rm_piece.specs.declared.{piece.Piece.{Piece}, set.{Set.{Set}, SetFile.{SetFile}}}
-use Rattle.rm_redo.specs.{LogFormat as log, LogFormat.{IsLogFile}, declared.log_file.LogFile.{LogFile}}
+use Rattle.rm_piece.specs.{SetSpelling.{set_spelling, spelled}, Sets.{IsSet}, Valid.{IsPiece}, declared.piece.Piece.{Piece}}
+use Rattle.rm_piece.specs.declared.set.{Set.{Set}, SetFile.{SetFile}}
+use Rattle.rm_piece.specs.Spelling as piece
+use Rattle.rm_redo.specs.{LogFormat.{IsLogFile}, declared.log_file.LogFile.{LogFile}}
+use Rattle.rm_redo.specs.LogFormat as log
 
 -- the bytes have the size and the digest that were recorded
 pub record HasDigest (bytes : List ℕ) (n : ℕ) (digest : List ℕ) : Type 0 where

@@ -2,7 +2,8 @@
 use Rattle.std.specs.Prelude.{◌≡◌, ◌↔◌, ◌<◌, ◌^◌, ℕ, List, [], ◌∷◌, ◌++◌, Contains, AllPairs, Option, Some, Result, Ok, Err}
 use Rattle.std.specs.Option.{option_map_or}
 use Rattle.rm_base.specs.{Store.{Held}, declared.kinds.{Bad.{Bad}, Kind.{Kind, TheVariants.{Level1}}}}
-use Rattle.rm_catalog.specs.declared.record.Record.{Record, TheVariants as kind}
+use Rattle.rm_catalog.specs.declared.record.Record.{Record}
+use Rattle.rm_catalog.specs.declared.record.Record.TheVariants as kind
 use Rattle.rm_evidence.specs.{Available.{IsBad, IsSkippedAmong}, Database.{Database}}
 use Rattle.rm_evidence.specs.{Gathered.{ById, ByIdAndFile, IsBaseAmong, IsLevel1Among, IsLogOf}, Names.{object_id}}
 use Rattle.rm_evidence.specs.declared.evidence.Evidence.{Evidence}

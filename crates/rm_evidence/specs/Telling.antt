@@ -2,7 +2,8 @@
 use Rattle.std.specs.Prelude.{◌≡◌, ◌≢◌, ℕ, List, [], ◌∷◌, ◌++◌, Option, Some, Ok, Err, IfSome, map, option_and_then, slice_get}
 use Rattle.std.specs.Option.{option_map_or}
 use Rattle.rm_base.specs.{Store.{Held}, declared.kinds.Status.TheVariants.{Available}}
-use Rattle.rm_catalog.specs.declared.record.Record.{Record, TheVariants as kind}
+use Rattle.rm_catalog.specs.declared.record.Record.{Record}
+use Rattle.rm_catalog.specs.declared.record.Record.TheVariants as kind
 use Rattle.rm_evidence.specs.{Database.{Database}, Names.{log_name, object_id, object_name, piece_name, set_name}}
 use Rattle.rm_evidence.specs.{Objects.{IsLogObject, IsPieceObject, IsSetObject}, Seen.{IsSeen}, Taking.{IsTold, with_piece, with_pieces}}
 use Rattle.rm_evidence.specs.declared.{evidence.Evidence.{Evidence}, telling.Told.{Told, TheVariants.{Nothing, OfLog, OfPiece, OfSet}}}

@@ -1,7 +1,8 @@
 -- The table of the catalog file, and the schema of a file that has it alone.
 use Rattle.std.specs.Prelude.{◌≡◌, ◌⊎◌, ℕ, List, [], ◌∷◌, map, codes, Contains, None, true, false}
-use Rattle.sqlite.specs.{Table.{Table}, Schema.{Schema}, Collation.TheVariants.{Binary}, Kind.TheVariants as kind, Change.{created}}
+use Rattle.sqlite.specs.{Table.{Table}, Schema.{Schema}, Collation.TheVariants.{Binary}, Change.{created}}
 use Rattle.sqlite.specs.declared.types.Value.TheVariants.{Null}
+use Rattle.sqlite.specs.Kind.TheVariants as kind
 
 -- a file with nothing in it
 abbrev pub no_schema : Schema

@@ -6,7 +6,8 @@ use Rattle.clap.specs.{Kinds.{Kinds, or_else}, Lexer.{name_and_value}, Words.{Ap
 use Rattle.clap.specs.Walk.{Held, Walk, after_step, arg_by_long, at_row, first_of, has_row, idle, is_early_multiple, more_values, with_values, without, walk_from, walked, long_met, after_flag}
 use Rattle.clap.specs.{Faults.{long_fault, step_fault, turn_fault}, Simple.{Shape, filled, filled_from, on_top, with_index}}
 use Rattle.clap.specs.{Takes.{is_given}, declared.parser.matches.ValueSource.TheVariants.{CommandLine}}
-use Rattle.clap.specs.declared.{builder.value_parser.Reading.TheVariants as reading, error.kind.ErrorKind.TheVariants as kind}
+use Rattle.clap.specs.declared.builder.value_parser.Reading.TheVariants as reading
+use Rattle.clap.specs.declared.error.kind.ErrorKind.TheVariants as kind
 use Rattle.rm_lang_words.specs.{Options.{Given, Text}, Form.{Entry, Form, entry_of, form_of, is_name, is_named, value_of}}
 use Rattle.rm_lang_words.specs.{Clap.{app_of_form, base, rule_of_entry}, declared.form.Entry.{Entry as EntryInCode}}
 

@@ -4,7 +4,8 @@ use Rattle.std.proofs.Common.{◌≡◌, ◌∙◌, ◌&&◌, ◌||◌, ◌∷�
 use Rattle.clap.specs.{Kinds.{Kinds, or_else}, Simple.{entered}, Words.{Rule, fault_of, matches_of}}
 use Rattle.clap.specs.Walk.{Row, Walk, first_of, finished, has_row, nothing_held, rows_after, settled, walked, with_default}
 use Rattle.clap.specs.Faults.{built_fault, check_fault, default_fault, defaults_fault, entered_fault, given_default_fault, settle_fault, walk_fault}
-use Rattle.clap.specs.{Takes.{is_given}, declared.error.kind.ErrorKind.TheVariants as kind}
+use Rattle.clap.specs.Takes.{is_given}
+use Rattle.clap.specs.declared.error.kind.ErrorKind.TheVariants as kind
 use Rattle.rm_lang_words.specs.{Options.{Given, Text}, Form.{Entry, Form, are_options, value_of}, Clap.{faults, found, one_word}}
 use Rattle.rm_lang_words.proofs.Clap.{app_is, at, built_with, filled_is, first_rows, given_rows, row, rule, rules, shape}
 use Rattle.rm_lang_words.proofs.Walks.{Plain, Walks, is_empty, walks}

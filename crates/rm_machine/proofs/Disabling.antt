@@ -12,7 +12,8 @@ use Rattle.rm_machine.specs.{Sound.{IsSound}, State.{current_of, ledger, now_of,
 use Rattle.rm_machine.specs.{SwitchLogfile.{is_due, log_bytes, log_entry, with_archived}, declared.state.State.{State}}
 use Rattle.rm_machine.proofs.{Archives.{room-one, thread-either}, Further.{roomy}, NewObjects.{count-logged}}
 use Rattle.rm_machine.proofs.{Switching.{CanArchive, due-parts, sound-after}, Threads.{disabled-switched, number-within, thread-in}}
-use Rattle.rm_machine.proofs.{ThreadSwitches as switching, ThreadSwitches.{CanSwitch, sound-switched, switch-fits}}
+use Rattle.rm_machine.proofs.ThreadSwitches.{CanSwitch, sound-switched, switch-fits}
+use Rattle.rm_machine.proofs.ThreadSwitches as switching
 
 -- what was not refused
 pub record IsAccepted (s : State) (t : ℕ) : Type 0 where

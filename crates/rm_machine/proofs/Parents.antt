@@ -5,7 +5,8 @@ use Rattle.std.proofs.lemmas.{Bool.{and_parts, cases_lt}, List.Elements.{All-con
 use Rattle.rm_base.proofs.{Lists.{map_from}, Members.{behind, first-or-rest, in-front, none-in}}
 use Rattle.rm_backup.specs.{Parents.{HasCopy, IsLast, among}, Records.{IsOnPath}}
 use Rattle.rm_catalog.specs.{Keys.{backups_in, part_piece, piece_in}, declared.record.{PieceEntry.{PieceEntry}, Record.{Record}}}
-use Rattle.rm_catalog.specs.declared.record.{Record.TheVariants as kind, SetEntry.{SetEntry}, SetPart.{SetPart}}
+use Rattle.rm_catalog.specs.declared.record.{SetEntry.{SetEntry}, SetPart.{SetPart}}
+use Rattle.rm_catalog.specs.declared.record.Record.TheVariants as kind
 use Rattle.rm_lang_statement.specs.declared.command.BackupForm.{BackupForm}
 use Rattle.rm_history.specs.Tree.{IsThere, IsTree, end_of, is_on_path, is_within, reset_of, segment_end}
 use Rattle.rm_history.{specs.declared.tree.Incarnation.{Incarnation}, proofs.Owners.{owner-below, owner-here}}

@@ -8,9 +8,9 @@ use Rattle.rm_catalog.specs.Objects.{FitsKind as FitsEntry, FitsRows, IsTag}
 use Rattle.rm_history.specs.{Agrees.{BaseAgrees, IsBelow}, Artefacts.{high_of}, Tree.{owner}, World.{blocks_of, exists}}
 use Rattle.rm_history.{specs.declared.world.Datafile.{Datafile}, proofs.Highs.{high-bound, high-least}}
 use Rattle.rm_catalog_typed.specs.LedgerFacts.{IsCreated, IsPieceEntry}
-use Rattle.rm_piece.specs.{Artefacts as piece, Level1s.{IsRead}, Spelling.{body_of}, Valid.{FitsKind, IsBefore, IsPiece, IsRow}}
-use Rattle.rm_piece.{specs.declared.piece.Piece.{Piece}, proofs.{Bodies.{length-body}, Fitting.{fits}, Highs.{count_fits}}}
-use Rattle.rm_piece.proofs.Picked.{picked_agrees, picked_valid}
+use Rattle.rm_piece.specs.{Level1s.{IsRead}, Spelling.{body_of}, Valid.{FitsKind, IsBefore, IsPiece, IsRow}, declared.piece.Piece.{Piece}}
+use Rattle.rm_piece.proofs.{Bodies.{length-body}, Fitting.{fits}, Highs.{count_fits}, Picked.{picked_agrees, picked_valid}}
+use Rattle.rm_piece.specs.Artefacts as piece
 use Rattle.rm_lang_statement.specs.declared.command.BackupForm.{BackupForm}
 use Rattle.rm_machine.specs.{MadePieces.{entry_for, piece_by}, Backup.{is_copy, kind_by, rows_from}, Effect.{a_piece}}
 use Rattle.rm_machine.specs.{Machine.{IsTrueArtefact, PieceAgrees}, Sound.{IsPlacedRow, IsSound}}

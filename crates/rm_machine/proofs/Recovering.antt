@@ -8,9 +8,9 @@ use Rattle.rm_base.proofs.{Slots.{all-get}, Conditions.{unless}}
 use Rattle.rm_blocks.specs.File.{File}
 use Rattle.rm_lang_statement.specs.declared.command.Until.{Until}
 use Rattle.rm_evidence.{specs.{Known.{FitsTree, known_of}, declared.evidence.Evidence.{Evidence}}, proofs.Contents.{seen-content}}
-use Rattle.rm_history.specs.{Evidence as known, Artefacts.{high_of}, Tree.{IsThere, owner, reset_of, end_of}, World.{exists}}
-use Rattle.rm_history.specs.{Known.{Seen, by_creation}, declared.{world.Datafile.{Datafile}, tree.Incarnation.{Incarnation}}}
-use Rattle.rm_history.proofs.Highs.{high-bound}
+use Rattle.rm_history.specs.{Artefacts.{high_of}, Tree.{IsThere, owner, reset_of, end_of}, World.{exists}, Known.{Seen, by_creation}}
+use Rattle.rm_history.{specs.declared.{world.Datafile.{Datafile}, tree.Incarnation.{Incarnation}}, proofs.Highs.{high-bound}}
+use Rattle.rm_history.specs.Evidence as known
 use Rattle.rm_catalog_typed.specs.LedgerFacts.{IsCreated}
 use Rattle.rm_plan.specs.Plan.{IsFileTarget}
 use Rattle.rm_apply.specs.Told.{AreFilesAt, IsTold}

@@ -4,7 +4,8 @@ use Rattle.std.proofs.lemmas.List.Elements.{All-contains, All-weaker}
 use Rattle.rm_base.specs.{Store.{Held}, declared.{block.Row.{Row}, kinds.Kind.{Kind, TheVariants.{Full, Level0, Level1, Place}}}}
 use Rattle.rm_base.proofs.{Lists.{map_from}, Slots.{all-get}}
 use Rattle.rm_blocks.{specs.File.{File, created, created_rows}, proofs.Rows.{created-row, in_order-created, length-created}}
-use Rattle.rm_catalog.specs.{Objects.{FitsRows}, declared.record.{PieceEntry.{PieceEntry}, SetEntry.{SetEntry}, Record.TheVariants as kind}}
+use Rattle.rm_catalog.specs.{Objects.{FitsRows}, declared.record.{PieceEntry.{PieceEntry}, SetEntry.{SetEntry}}}
+use Rattle.rm_catalog.specs.declared.record.Record.TheVariants as kind
 use Rattle.rm_apply.specs.Recover.{IsEvidence}
 use Rattle.rm_apply.specs.Restore.{AreRestored, IsBackupFor, IsRestoration, Restores, backed_up, file_by, restored as file_of_restoration}
 use Rattle.rm_apply.{specs.declared.{origin.Origin.{Origin}, recovering.Recovered.{Recovered}}, proofs.Restorations.{chosen_in_order}}

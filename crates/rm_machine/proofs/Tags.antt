@@ -6,7 +6,8 @@ use Rattle.rm_lang_token.specs.Tokens.{is_word_byte}
 use Rattle.rm_lang_grammar.specs.{Grammar.{capitals, in_range, is_tag}, Spelling.{is_capital_tag, maybe_valid}}
 use Rattle.rm_lang_statement.specs.{Agreed.{agrees}, IsCommand.{is_backup}, Named.{are_named}, declared.command.BackupForm.{BackupForm}}
 use Rattle.rm_catalog.specs.Objects.{IsTag, is_tag_byte}
-use Rattle.rm_moments.{specs.{Text as text, Tags.{IsTagByte}}, proofs.Tags.{tag-long, tag-bytes}}
+use Rattle.rm_moments.{specs.Tags.{IsTagByte}, proofs.Tags.{tag-long, tag-bytes}}
+use Rattle.rm_moments.specs.Text as text
 use Rattle.rm_machine.specs.{Backup.{IsTagBy, named_tag}, Until.{or_else}}
 
 -- a byte of a word is one of a tag

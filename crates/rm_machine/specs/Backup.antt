@@ -2,7 +2,8 @@
 use Rattle.std.specs.Prelude.{MatchBool, ℕ, zero, suc, ◌≡◌, ◌==◌, ◌&&◌, ◌||◌, ◌+◌, ◌*◌, not, if◌then◌else◌, is_none, Bool, true, false, Option, Some, None, List, [], ◌∷◌, Contains, drop, length, map, sum_by, take}
 use Rattle.std.specs.{List.{find, list_any}, Option.{option_and_then, option_map, option_map_or}}
 use Rattle.sha2.specs.Sha256.{sha256}
-use Rattle.rm_base.specs.declared.{block.Row.{Row}, kinds.{Kind.{Kind, TheVariants as kind}, Status.TheVariants.{Available}}}
+use Rattle.rm_base.specs.declared.{block.Row.{Row}, kinds.{Kind.{Kind}, Status.TheVariants.{Available}}}
+use Rattle.rm_base.specs.declared.kinds.Kind.TheVariants as kind
 use Rattle.rm_backup.specs.Parents.{IsParent}
 use Rattle.rm_catalog.specs.declared.record.{SetEntry.{SetEntry}, SetPart.{SetPart}}
 use Rattle.rm_lang_statement.specs.declared.command.BackupForm.{BackupForm}

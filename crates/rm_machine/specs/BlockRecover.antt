@@ -7,7 +7,8 @@ use Rattle.rm_evidence.specs.{Known.{known_of}, declared.evidence.Evidence.{Evid
 use Rattle.rm_lang_statement.specs.declared.command.RepairForm.{RepairForm}
 use Rattle.rm_live.specs.{History.{IsLegal}, declared.history.{Answer.TheVariants.{Mended}, Call.TheVariants.{Mend}, Event.{Event}}}
 use Rattle.rm_plan.specs.{Blocks.{AreToldRows, NamesFirstOf}, declared.plan.Gap.{Gap}}
-use Rattle.rm_report.specs.declared.line.Line.{Line, TheVariants as line}
+use Rattle.rm_report.specs.declared.line.Line.{Line}
+use Rattle.rm_report.specs.declared.line.Line.TheVariants as line
 use Rattle.rm_machine.specs.{Asked.{writers_in}, BackupOutcome.{write_lines}, Effect.{Outcome, done, no_effect, refused}}
 use Rattle.rm_machine.specs.{Events.{after_events, changes_of, opening}, Marks.{marked_for}, Recovery.{IsAtHand, skipped_lines}}
 use Rattle.rm_machine.specs.{State.{current_of, now_of, world}, declared.state.State.{State}}

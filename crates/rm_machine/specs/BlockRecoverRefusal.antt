@@ -1,9 +1,9 @@
 -- Why a BLOCKRECOVER is refused.
 use Rattle.std.specs.Prelude.{ℕ, ◌+◌, not, nat_lt, nat_le, if◌then◌else◌, is_none, true, Option, Some, None, find, length}
 use Rattle.std.specs.Option.{option_and_then, option_map, option_map_or}
-use Rattle.rm_base.specs.{Numbers.{last_scn}, declared.refusal.Absent.{Absent, TheVariants as absent}}
-use Rattle.rm_base.specs.declared.refusal.{Limit.TheVariants.{Records, ObjectIds, LogRecords}, Refusal.{Refusal}}
-use Rattle.rm_base.specs.declared.refusal.Refusal.TheVariants.{Rm04, Rm05, Rm09, Rm11, Rm15, Rm17, Rm18}
+use Rattle.rm_base.specs.{Numbers.{last_scn}, declared.refusal.{Absent.{Absent}, Limit.TheVariants.{Records, ObjectIds, LogRecords}}}
+use Rattle.rm_base.specs.declared.refusal.Refusal.{Refusal, TheVariants.{Rm04, Rm05, Rm09, Rm11, Rm15, Rm17, Rm18}}
+use Rattle.rm_base.specs.declared.refusal.Absent.TheVariants as absent
 use Rattle.rm_history.specs.declared.world.Datafile.{Datafile}
 use Rattle.rm_lang_statement.specs.declared.command.{NamedBlocks.{NamedBlocks}, RepairForm.{RepairForm}}
 use Rattle.rm_machine.specs.{Asked.{asked}, BackupRefusal.{absent_of, damaged_write, lacks_logs, lost_of, marks_for}, Damage.{has_block}}

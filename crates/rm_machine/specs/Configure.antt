@@ -1,6 +1,7 @@
 -- CONFIGURE: the retention policy, and how many channels there are
 use Rattle.std.specs.Prelude.{ℕ, ◌≡◌, nat_lt, if◌then◌else◌, Option, Some, None, [], ◌∷◌}
-use Rattle.rm_base.specs.declared.{kinds.Policy.{Policy, TheVariants as policy}, refusal.Refusal.{Refusal, TheVariants.{Rm11}}}
+use Rattle.rm_base.specs.declared.{kinds.Policy.{Policy}, refusal.Refusal.{Refusal, TheVariants.{Rm11}}}
+use Rattle.rm_base.specs.declared.kinds.Policy.TheVariants as policy
 use Rattle.rm_base.specs.declared.refusal.Limit.TheVariants as limit
 use Rattle.rm_report.specs.declared.line.Line.TheVariants as line
 use Rattle.rm_catalog_typed.specs.{Changes.{with_base}, TypedCatalog.{TypedCatalog}}

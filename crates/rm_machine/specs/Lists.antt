@@ -1,10 +1,12 @@
 -- LIST BACKUP, LIST COPY and LIST ARCHIVELOG ALL
 use Rattle.std.specs.{Prelude.{ℕ, ◌≡◌, if◌then◌else◌, Bool, Option, Some, None, List, [], ◌∷◌, map, Contains}, List.{flat_map}}
-use Rattle.rm_base.specs.declared.kinds.{Class.{Class}, Kind.{Kind, TheVariants as kind}}
+use Rattle.rm_base.specs.declared.kinds.{Class.{Class}, Kind.{Kind}}
+use Rattle.rm_base.specs.declared.kinds.Kind.TheVariants as kind
 use Rattle.rm_catalog.specs.declared.record.{Record.{Record, TheVariants.{Log, Piece, Set}}, SetEntry.{SetEntry}, SetPart.{SetPart}}
 use Rattle.rm_evidence.specs.Gathered.{Lists}
-use Rattle.rm_report.specs.declared.line.{Line.{Line, TheVariants.{LogIs, PieceIs}}, Packing.{Packing, TheVariants as packing}}
-use Rattle.rm_report.specs.declared.line.Shape.{Shape, TheVariants as shape}
+use Rattle.rm_report.specs.declared.line.{Line.{Line, TheVariants.{LogIs, PieceIs}}, Packing.{Packing}, Shape.{Shape}}
+use Rattle.rm_report.specs.declared.line.Packing.TheVariants as packing
+use Rattle.rm_report.specs.declared.line.Shape.TheVariants as shape
 use Rattle.rm_catalog_typed.specs.TypedCatalog.{records_of}
 use Rattle.rm_verify.specs.Classes.{is_of}
 use Rattle.rm_machine.specs.{Effect.{Outcome, told}, declared.state.State.{State}}

@@ -9,10 +9,11 @@ use Rattle.rm_track.specs.Told.{Tell}
 use Rattle.rm_catalog_typed.specs.{Ledger.{Ledger}, Worlds.{database_of}}
 use Rattle.rm_evidence.specs.{Database.{Database}, Names.{log_name, piece_name, set_name}}
 use Rattle.rm_evidence.specs.Objects.{HasDigest, HasLogFields, HasPieceFields, HasSetFields}
-use Rattle.rm_piece.specs.{Artefacts as piece, Spelling as piece_format, Sets.{IsSet}, SetSpelling.{set_spelling}, Valid.{IsPiece}}
-use Rattle.rm_piece.specs.declared.{piece.Piece.{Piece}, set.Set.{Set}}
-use Rattle.rm_redo.specs.{LogFormat as log_format, LogFile.{log_of}, LogFormat.{IsLogFile}, Online.{IsThread}}
-use Rattle.rm_redo.specs.declared.log_file.LogFile.{LogFile}
+use Rattle.rm_piece.specs.{Sets.{IsSet}, SetSpelling.{set_spelling}, Valid.{IsPiece}, declared.{piece.Piece.{Piece}, set.Set.{Set}}}
+use Rattle.rm_piece.specs.Artefacts as piece
+use Rattle.rm_piece.specs.Spelling as piece_format
+use Rattle.rm_redo.specs.{LogFile.{log_of}, LogFormat.{IsLogFile}, Online.{IsThread}, declared.log_file.LogFile.{LogFile}}
+use Rattle.rm_redo.specs.LogFormat as log_format
 use Rattle.rm_machine.specs.{Damage.{has_block, has_file}, Effect.{Artefact, a_log, a_piece, a_set, Made}, Sound.{IsSound}}
 use Rattle.rm_machine.specs.State.{ledger, tree, world, current_of, now_of, placed, counted, online, is_lost}
 use Rattle.rm_machine.specs.declared.state.State.{State}

@@ -7,7 +7,8 @@ use Rattle.rm_history.specs.World.{creation_of}
 use Rattle.rm_catalog_typed.specs.{Ledger.{Ledger}, Changes.{with_new_set}, Worlds.{world_of}}
 use Rattle.rm_evidence.specs.Names.{set_name}
 use Rattle.rm_piece.specs.{Filling.{risen}, SetSpelling.{set_spelling, spelled}, declared.set.{Set.{Set}, SetFile.{SetFile}}}
-use Rattle.rm_report.specs.declared.line.{Line.{Line, TheVariants.{BackedUp}}, Packing.TheVariants as packing}
+use Rattle.rm_report.specs.declared.line.Line.{Line, TheVariants.{BackedUp}}
+use Rattle.rm_report.specs.declared.line.Packing.TheVariants as packing
 use Rattle.rm_lang_statement.specs.declared.command.BackupForm.{BackupForm}
 use Rattle.rm_machine.specs.{Backup.{set_entry}, Effect.{Made, a_set}, Lists.{shape_by}, MadePieces.{piece_by}, State.{ledger}}
 use Rattle.rm_machine.specs.declared.{job.Job.{Job}, state.State.{State}}

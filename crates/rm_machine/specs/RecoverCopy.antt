@@ -6,7 +6,8 @@ use Rattle.rm_base.specs.declared.refusal.{Limit.TheVariants.{Bytes, ObjectIds},
 use Rattle.rm_base.specs.declared.refusal.Unknown.TheVariants.{Tag}
 use Rattle.rm_apply.specs.Files.{AreExactly}
 use Rattle.rm_backup.specs.{Renewed.{IsRenewed}, Taken.{IsTaken}, declared.renewing.Renewed.{Renewed}}
-use Rattle.rm_catalog.specs.declared.record.{PieceEntry.{PieceEntry}, Record.{Record, TheVariants as records}}
+use Rattle.rm_catalog.specs.declared.record.{PieceEntry.{PieceEntry}, Record.{Record}}
+use Rattle.rm_catalog.specs.declared.record.Record.TheVariants as records
 use Rattle.rm_commit.specs.declared.commit.Object.{Object}
 use Rattle.rm_evidence.specs.{Available.{IsSkipped}, Gathered.{Lists}, Names.{piece_name}, Objects.{piece_entry}}
 use Rattle.rm_evidence.specs.declared.evidence.Evidence.{Evidence}

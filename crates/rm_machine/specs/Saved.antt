@@ -5,9 +5,10 @@ use Rattle.rm_catalog.specs.declared.record.PartEntry.{PartEntry}
 use Rattle.rm_history.specs.{Tree.{IsThere, reset_of, end_of}, declared.world.Datafile.{Datafile}}
 use Rattle.rm_catalog_typed.specs.{Ledger.{Ledger}, Switches.{is_enabled_in}, TypedCatalog.{Saved}}
 use Rattle.rm_evidence.specs.{Names.{site_name}, Objects.{HasDigest}}
-use Rattle.rm_piece.specs.{Spelling as piece_format, SetSpelling.{set_spelling}, Valid.{IsPiece}, declared.piece.Piece.{Piece}}
-use Rattle.rm_redo.specs.{LogFormat as log_format, LogFormat.{IsLogFile}, declared.log_file.LogFile.{LogFile}}
-use Rattle.rm_redo.specs.declared.online.LogRecord.{LogRecord}
+use Rattle.rm_piece.specs.{SetSpelling.{set_spelling}, Valid.{IsPiece}, declared.piece.Piece.{Piece}}
+use Rattle.rm_piece.specs.Spelling as piece_format
+use Rattle.rm_redo.specs.{LogFormat.{IsLogFile}, declared.{log_file.LogFile.{LogFile}, online.LogRecord.{LogRecord}}}
+use Rattle.rm_redo.specs.LogFormat as log_format
 use Rattle.rm_machine.specs.Effect.{Artefact, a_log, a_piece, a_set}
 
 -- the part of a datafile, and that of a redo thread

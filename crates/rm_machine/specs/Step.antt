@@ -1,10 +1,11 @@
 -- One step of the machine, and runs.
 use Rattle.std.specs.Prelude.{ℕ, ◌≡◌, true, false, Option, Some, None, List, [], ◌∷◌, ◌++◌, All, length}
-use Rattle.rm_base.specs.{Store.{Held}, declared.{block.Change.{Change}, kinds.Class.TheVariants as class, refusal.Refusal.{Refusal}}}
-use Rattle.rm_base.specs.declared.refusal.Refusal.TheVariants.{Rm02, Rm03}
+use Rattle.rm_base.specs.{Store.{Held}, declared.{block.Change.{Change}, refusal.Refusal.{Refusal, TheVariants.{Rm02, Rm03}}}}
+use Rattle.rm_base.specs.declared.kinds.Class.TheVariants as class
 use Rattle.rm_lang_statement.specs.{IsCommand.{is_command}, declared.command.Command.{Command}}
 use Rattle.rm_lang_statement.specs.declared.command.Command.TheVariants.{ArchiveLogCurrent, Backup, BackupFrom, BackupLogs, BlockRecover, CatalogName, ChangeBackup, Corrupt, CreateDatabase, CreateDatafile, Crosscheck, Cut, Damage, DeleteBackup, DeleteExpired, DeleteObsolete, Dump, ListArchived, ListBackup, ListCopy, ListCorruption, ListIncarnation, LoseDatafile, LoseLog, Mount, OpenPlain, OpenResetlogs, Parallelism, Preview, Recover, RecoverCopy, RecoverTest, Remove, Rename, ReportNeedBackup, ReportObsolete, ReportSchema, ResetDatabase, Restore, Retention, ShowAll, SwitchLogfile, SwitchThread, Tracking, ValidateAll, Write}
-use Rattle.rm_report.specs.{Reply as reply, declared.line.Reply.{Reply}}
+use Rattle.rm_report.specs.declared.line.Reply.{Reply}
+use Rattle.rm_report.specs.Reply as reply
 use Rattle.rm_standby.specs.Standby.{HoldsSince}
 use Rattle.rm_machine.specs.{Archive.{archive_all_refusal, IsArchiveOutcome}, Asked.{asked, writes_in}, BackupOutcome.{IsBackupOutcome}}
 use Rattle.rm_machine.specs.{BackupRefusal.{backup_refusal}, BackupLogs.{IsBackupLogsOutcome}, BlockRecover.{IsBlockRecoverOutcome}}

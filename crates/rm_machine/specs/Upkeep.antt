@@ -1,12 +1,14 @@
 -- CHANGE BACKUP, DELETE BACKUP, CROSSCHECK and DELETE EXPIRED: records of logs, pieces and sets, by their ids and classes
 use Rattle.std.specs.Prelude.{ℕ, ◌≡◌, ◌==◌, ◌&&◌, is_none, if◌then◌else◌, Bool, true, false, Option, Some, None, List, [], ◌∷◌, ◌++◌, Contains, filter, find, length, map}
 use Rattle.std.specs.Option.{option_map_or}
-use Rattle.rm_base.specs.{Store.{Held}, declared.{kinds.{Class.{Class}, Status.{Status, TheVariants as status}}, refusal.Refusal.{Refusal}}}
+use Rattle.rm_base.specs.{Store.{Held}, declared.{kinds.{Class.{Class}, Status.{Status}}, refusal.Refusal.{Refusal}}}
 use Rattle.rm_base.specs.declared.refusal.{Refusal.TheVariants.{Rm11, Rm12}, Limit.TheVariants.{ObjectIds}, Unknown.TheVariants.{Entry}}
+use Rattle.rm_base.specs.declared.kinds.Status.TheVariants as status
 use Rattle.rm_apply.specs.Files.{AreExactly}
 use Rattle.rm_catalog.specs.declared.record.{LogEntry.{LogEntry}, PieceEntry.{PieceEntry}, SetEntry.{SetEntry}, Record.{Record}}
 use Rattle.rm_evidence.specs.{Gathered.{Lists}, Names.{log_name, piece_name, set_name}}
-use Rattle.rm_report.specs.declared.line.Line.{Line, TheVariants as line}
+use Rattle.rm_report.specs.declared.line.Line.{Line}
+use Rattle.rm_report.specs.declared.line.Line.TheVariants as line
 use Rattle.rm_catalog_typed.specs.Changes.{with_log, with_piece, with_set, without_log, without_piece, without_set}
 use Rattle.rm_catalog_typed.specs.TypedCatalog.{TypedCatalog, records_of}
 use Rattle.rm_lang_statement.specs.declared.command.ChangeTo.{ChangeTo, TheVariants.{Available, Keep, NoKeep, Unavailable, Uncatalog}}

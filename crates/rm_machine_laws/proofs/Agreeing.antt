@@ -6,13 +6,14 @@ use Rattle.rm_base.proofs.{Lists.{map_from}, Members.{none-in}, Slots.{index-get
 use Rattle.rm_catalog.specs.declared.record.{LogEntry.{LogEntry}, PieceEntry.{PieceEntry}, SetEntry.{SetEntry}}
 use Rattle.rm_evidence.specs.{Available.{HasLogObject, HasPieceObject, HasSetObject}, Gathered.{IsGathered}, Known.{known_of}}
 use Rattle.rm_evidence.specs.{Seen.{IsSeen}, Names.{log_name, piece_name, set_name}, declared.evidence.Evidence.{Evidence}}
-use Rattle.rm_history.specs.{Evidence as known, Agrees.{BaseAgrees, Level1Agrees, LogAgrees}, History.{IsHistory}}
-use Rattle.rm_history.specs.declared.world.World.{World}
-use Rattle.rm_piece.specs.{Spelling as piece_format, Artefacts.{base_of, level1_of}, SetSpelling.{set_spelling}}
-use Rattle.rm_piece.{specs.declared.{piece.Piece.{Piece}, set.{Set.{Set}, SetFile.{SetFile}}}, proofs.Fitting.{spelling_same as piece_same}}
+use Rattle.rm_history.specs.{Agrees.{BaseAgrees, Level1Agrees, LogAgrees}, History.{IsHistory}, declared.world.World.{World}}
+use Rattle.rm_history.specs.Evidence as known
+use Rattle.rm_piece.specs.{Artefacts.{base_of, level1_of}, SetSpelling.{set_spelling}, declared.{piece.Piece.{Piece}, set.Set.{Set}}}
+use Rattle.rm_piece.{specs.declared.set.SetFile.{SetFile}, proofs.Fitting.{spelling_same as piece_same}}
 use Rattle.rm_piece.proofs.SetFitting.{spelling_same as set_same}
-use Rattle.rm_redo.specs.{LogFormat as log_format, LogFile.{log_of}, declared.log_file.LogFile.{LogFile}}
-use Rattle.rm_redo.proofs.LogFitting.{spelling_same as log_same}
+use Rattle.rm_piece.specs.Spelling as piece_format
+use Rattle.rm_redo.{specs.{LogFile.{log_of}, declared.log_file.LogFile.{LogFile}}, proofs.LogFitting.{spelling_same as log_same}}
+use Rattle.rm_redo.specs.LogFormat as log_format
 use Rattle.rm_machine.specs.{Damage.{has_file}, Effect.{Made, a_log, a_piece, a_set}}
 use Rattle.rm_machine.specs.Machine.{DigestsTell, DigestsTellFor, IsBorneOut, IsSoundBy, IsTrueArtefact, Machine, PieceAgrees, TellBy}
 use Rattle.rm_machine.specs.{Recovery.{IsAtHand, in_place}, State.{ledger, world}, declared.state.State.{State}}

@@ -26,8 +26,9 @@ use Rattle.rm_machine.proofs.{BackupAccepted.{CanBackUp, can-back_up, unless-som
 use Rattle.rm_machine.proofs.Copies.{IsReady, all-copied, all-in_sets, all-packed, ready-member_true, ready-true}
 use Rattle.rm_machine.proofs.{BackupMarks.{borne-marked, marked-same}, MembersRead.{creation-by}}
 use Rattle.rm_machine.proofs.{PiecesRead.{AreOthers, IsCheckpoint, blocks-by}, Deeds.{WereRead, are-read}}
-use Rattle.rm_machine.proofs.{BackingUp as shared, Walk.{AreAsked, CanGoOn, HasWalked, events-same}}
+use Rattle.rm_machine.proofs.Walk.{AreAsked, CanGoOn, HasWalked, events-same}
 use Rattle.rm_machine.proofs.BackingUp.{IsNoCandidate, IsReadyToRead, jobs-ready, of-each, per_set-some}
+use Rattle.rm_machine.proofs.BackingUp as shared
 use Rattle.rm_machine_laws.proofs.Recording.{IsTrueMember, IsTrueObject, objects-borne, objects-saved, objects-sound}
 use Rattle.rm_machine_laws.proofs.{Walk.{below-events, borne-events, true-events}, Wanted.{below-begun, is-taken, tell-begun}}
 use Rattle.rm_machine_laws.proofs.{Leading.{LeadsOnBy, StaysBy}, Quiet.{landed, same-stays}}

@@ -8,9 +8,10 @@ use Rattle.rm_history.specs.{Tree.{IsThere, end_of, parent_of, reset_of, with_en
 use Rattle.rm_history.proofs.Owners.{end-there, parent-there, reset-there}
 use Rattle.rm_catalog_typed.{specs.{TypedCatalog.{TypedCatalog}, Worlds.{database_of}}, proofs.Ones.{contains-with}}
 use Rattle.rm_lang_statement.specs.declared.command.Command.{Command, TheVariants.{CatalogName}}
-use Rattle.rm_piece.{specs.{Spelling as piece_format, SetSpelling.{set_head}}, proofs.Fitting.{spelling_same as piece_same}}
-use Rattle.rm_piece.proofs.SetFitting.{spelling_same as set_same}
-use Rattle.rm_redo.{specs.LogFormat as log_format, proofs.LogFitting.{spelling_same as log_same}}
+use Rattle.rm_piece.{specs.SetSpelling.{set_head}, proofs.{Fitting.{spelling_same as piece_same}, SetFitting.{spelling_same as set_same}}}
+use Rattle.rm_piece.specs.Spelling as piece_format
+use Rattle.rm_redo.proofs.LogFitting.{spelling_same as log_same}
+use Rattle.rm_redo.specs.LogFormat as log_format
 use Rattle.rm_report.specs.declared.line.Line.{Line}
 use Rattle.rm_evidence.specs.Objects.{piece_entry}
 use Rattle.rm_machine.specs.CatalogName.{Found, IsCatalogOutcome, IsFound, artefact_of, catalog_by, catalog_refusal, catalogued, catalogues, cataloguing, found_log, found_piece, inc_of, name_of, raised, top_of}

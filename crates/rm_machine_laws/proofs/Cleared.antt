@@ -4,7 +4,8 @@ use Rattle.std.proofs.lemmas.{Bool.{cases_Bool, eq-eqb, eqb-true, false≢true},
 use Rattle.rm_base.specs.{Store.{Held}, declared.{block.Change.{Change}, kinds.Policy.{Policy, TheVariants.{Nothing, Redundancy, Window}}}}
 use Rattle.rm_base.proofs.{Lists.{any_from, any_none}, Members.{in-front}}
 use Rattle.rm_catalog.specs.{Keys.{at, key_of, place, place_of}, Rules.{IsCatalog}, declared.record.LogEntry.{LogEntry}}
-use Rattle.rm_catalog.specs.declared.record.{PieceEntry.{PieceEntry}, Record.{Record, TheVariants as kind}, SetEntry.{SetEntry}}
+use Rattle.rm_catalog.specs.declared.record.{PieceEntry.{PieceEntry}, Record.{Record}, SetEntry.{SetEntry}}
+use Rattle.rm_catalog.specs.declared.record.Record.TheVariants as kind
 use Rattle.rm_apply.proofs.Unique.{evidence_one}
 use Rattle.rm_evidence.{specs.{Database.{database_in}, Known.{known_of}, declared.evidence.Evidence.{Evidence}}, proofs.Worlds.{is_world}}
 use Rattle.rm_evidence.proofs.{Current.{current_is}, Found.{at-is}}
@@ -17,10 +18,11 @@ use Rattle.rm_catalog_typed.proofs.{Valid.{typed_catalog-valid}, Records.{base-t
 use Rattle.rm_retain.specs.{Catalogued.{AreObsolete, IsObsoleteRecord}, Chosen.{Retention}, Cleared.{IsCleared}}
 use Rattle.rm_retain.{specs.Losing.{FitsHistory, LosesNeedless}, proofs.{Clearing.{gathered_left}, CopiesLeft.{was_obsolete}}}
 use Rattle.rm_retain.proofs.{Safe.{safe_recoverable, safe_told}, WholeCopies.{copies_whole}}
-use Rattle.rm_machine.specs.{Names as names, Effect.{Made}, Machine.{DigestsTellFor, IsBorneOut}}
+use Rattle.rm_machine.specs.{Effect.{Made}, Machine.{DigestsTellFor, IsBorneOut}}
 use Rattle.rm_machine.specs.{Obsolete.{AreObsoleteIn, IsSafe, IsSafeBy, KeepsTargets, retention_of}, Recovery.{IsAtHand, in_place}}
 use Rattle.rm_machine.specs.{Sound.{IsSound}, State.{ledger}, Upkeep.{with_catalog, without_all, without_record}}
 use Rattle.rm_machine.{specs.declared.state.State.{State}, proofs.{Entries.{with_entries}, Upkeep.{all-on}}}
+use Rattle.rm_machine.specs.Names as names
 use Rattle.rm_machine_laws.proofs.{Agreeing.{evidence-agrees}, Deleting.{left-log, left-piece, left-set, stays-log, stays-piece, stays-set}}
 
 -- an id is one of these, or none

@@ -6,7 +6,8 @@ use Rattle.rm_blocks.specs.File.{File, base_of}
 use Rattle.rm_history.specs.{Agrees.{BaseAgrees}, World.{exists}, declared.world.Datafile.{Datafile}}
 use Rattle.rm_catalog_typed.proofs.Lookups.{item-at}
 use Rattle.rm_machine.specs.{Machine.{HistoryFits, RowsAre}, Sound.{IsSound}, State.{ledger, world, current_of}}
-use Rattle.rm_machine.{specs.declared.state.State.{State}, proofs.{Exchanging as shared, Places.{counted-closed}, Exchanging.{exchanged}}}
+use Rattle.rm_machine.{specs.declared.state.State.{State}, proofs.{Places.{counted-closed}, Exchanging.{exchanged}}}
+use Rattle.rm_machine.proofs.Exchanging as shared
 use Rattle.rm_machine_laws.proofs.DamagedRows.{closed-file}
 
 module _ (s : State) (point : Option ℕ) (place : List (Option File)) (sound : IsSound s) (closed : s.instance.is_open ≡ false) (many : length place ≡ length s.instance.place) where

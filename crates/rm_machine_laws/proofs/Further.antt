@@ -11,7 +11,8 @@ use Rattle.rm_catalog_typed.{specs.Switches.{is_enabled_in}, proofs.Trees.{Keeps
 use Rattle.rm_redo.specs.{LogFile.{log_of}, Online.{IsThread}}
 use Rattle.rm_machine.specs.{Damage.{has_block}, Machine.{HistoryFits, SoundRowsAre}, Sound.{IsSound}}
 use Rattle.rm_machine.specs.{State.{ledger, world, now_of, redo_end, placed, online}, declared.state.State.{State}}
-use Rattle.rm_machine.proofs.{Further as shared, Further.{GoesOn, inc-now}}
+use Rattle.rm_machine.proofs.Further.{GoesOn, inc-now}
+use Rattle.rm_machine.proofs.Further as shared
 use Rattle.rm_machine_laws.proofs.{Bitmaps.{tell-later}, Grown.{SameHistory}, DamagedRows.{sound-agrees}}
 
 -- each change lies below the end up to which the logs of its incarnation tell

@@ -4,7 +4,8 @@ use Rattle.rm_base.specs.declared.{block.Change.{Change}, kinds.Kind.{Kind, TheV
 use Rattle.rm_history.specs.{Agrees.{BaseAgrees, Level1Agrees}, Artefacts.{Base, Level1 as Increment}, Tree.{IsThere}}
 use Rattle.rm_history.specs.declared.world.World.{World}
 use Rattle.rm_catalog_typed.proofs.Trees.{Keeps}
-use Rattle.rm_piece.specs.{Artefacts as piece, declared.{piece.Piece.{Piece}, set.SetFile.{SetFile}}}
+use Rattle.rm_piece.specs.declared.{piece.Piece.{Piece}, set.SetFile.{SetFile}}
+use Rattle.rm_piece.specs.Artefacts as piece
 use Rattle.rm_machine.specs.Effect.{Artefact, a_log, a_piece, a_set}
 use Rattle.rm_machine.specs.Machine.{ArtefactAgrees, EndsWithin, IsOfDatafile, IsTrueArtefact, PieceAgrees, PieceEndsWithin}
 

@@ -7,7 +7,8 @@ use Rattle.rm_base.{specs.declared.refusal.Unknown.TheVariants.{Byte}, proofs.Me
 use Rattle.rm_commit.proofs.Named.{same-name}
 use Rattle.rm_lang_statement.specs.declared.command.Command.TheVariants.{Cut, Damage, Remove, Rename}
 use Rattle.rm_catalog_typed.specs.Ledger.{Ledger}
-use Rattle.rm_report.specs.declared.line.Line.{Line, TheVariants as line}
+use Rattle.rm_report.specs.declared.line.Line.{Line}
+use Rattle.rm_report.specs.declared.line.Line.TheVariants as line
 use Rattle.rm_machine.specs.Mishaps.{cut_by, damage_by, damaged, removal, remove_by, rename_by, renaming, replacement}
 use Rattle.rm_machine.specs.{Effect.{Effect, LeavesObjects, Made, done, refused}, Machine.{IsBorneOut}, State.{ledger}}
 use Rattle.rm_machine.{specs.declared.state.State.{State}, proofs.{Kept.{StandOn}, Later.{borne-beside}}}

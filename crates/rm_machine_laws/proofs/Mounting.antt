@@ -7,8 +7,9 @@ use Rattle.rm_history.specs.Agrees.{BaseAgrees}
 use Rattle.rm_machine.specs.{Damage.{has_file, without_damaged}, Effect.{Made}, Machine.{HistoryFits, RowsAre, IsBorneOut}}
 use Rattle.rm_machine.specs.{Mount.{as_mounted, first_lost, mount_point, mounted}, Sound.{IsSound}, State.{world, placed, counted}}
 use Rattle.rm_machine.{specs.declared.state.State.{State}, proofs.{Undamaged.{sound-undamaged}, FirstTold.{tell-none}}}
-use Rattle.rm_machine.proofs.{Mounting as shared, LosingFits.{losing-fits}, Places.{counted-closed, counted-open, placed-map}}
+use Rattle.rm_machine.proofs.{LosingFits.{losing-fits}, Places.{counted-closed, counted-open, placed-map}}
 use Rattle.rm_machine.proofs.Mounting.{mode-either, sound-as_mounted}
+use Rattle.rm_machine.proofs.Mounting as shared
 use Rattle.rm_lang_statement.specs.declared.command.Command.TheVariants.{Mount}
 use Rattle.rm_machine_laws.proofs.{DamagedRows.{none-damaged}, Leading.{LeadsOnBy, StaysBy}, Quiet.{quiet-on, quiet-stays}}
 

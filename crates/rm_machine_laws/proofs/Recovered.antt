@@ -6,7 +6,8 @@ use Rattle.rm_blocks.specs.File.{File, base_of}
 use Rattle.rm_lang_statement.specs.declared.command.{Command.TheVariants.{Recover, RecoverTest}, Until.{Until}}
 use Rattle.rm_evidence.specs.{Known.{FitsTree, known_of}, declared.evidence.Evidence.{Evidence}}
 use Rattle.rm_apply.specs.Told.{AreFilesAt}
-use Rattle.rm_history.specs.{Evidence as known, Agrees.{BaseAgrees}, State.{state}, World.{exists}, declared.world.Datafile.{Datafile}}
+use Rattle.rm_history.specs.{Agrees.{BaseAgrees}, State.{state}, World.{exists}, declared.world.Datafile.{Datafile}}
+use Rattle.rm_history.specs.Evidence as known
 use Rattle.rm_report.specs.declared.line.Line.{Line}
 use Rattle.rm_machine.specs.{Effect.{Effect, LeavesObjects, Made, done, told}, Machine.{DigestsTellFor, HistoryFits, IsBorneOut, RowsAre}}
 use Rattle.rm_machine.specs.Recover.{BringsTo, RecoversTo, recovered, recover_refusal, recover_target}

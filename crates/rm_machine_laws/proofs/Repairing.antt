@@ -10,7 +10,8 @@ use Rattle.rm_catalog.proofs.Filters.{filter_none}
 use Rattle.rm_catalog_typed.{specs.TypedCatalog.{records_of}, proofs.{Valid.{typed_catalog-valid}, Records.{tree-told}}}
 use Rattle.rm_channel.specs.Made.{AreThese, deed}
 use Rattle.rm_evidence.{specs.{Known.{FitsTree, known_of}, declared.evidence.Evidence.{Evidence}}, proofs.Fitting.{gathered-fits}}
-use Rattle.rm_history.specs.{Evidence as known, State.{state}, declared.tree.Incarnation.{Incarnation}}
+use Rattle.rm_history.specs.{State.{state}, declared.tree.Incarnation.{Incarnation}}
+use Rattle.rm_history.specs.Evidence as known
 use Rattle.rm_lang_statement.specs.declared.command.{BackupForm.{BackupForm}, Command.TheVariants.{BlockRecover}, NamedBlocks.{NamedBlocks}}
 use Rattle.rm_lang_statement.specs.declared.command.{RepairForm.{RepairForm}, WriteForm.{WriteForm}}
 use Rattle.rm_report.specs.declared.line.Line.{Line}
@@ -23,9 +24,10 @@ use Rattle.rm_machine.specs.{Repair.{RepairsSoFar, RepairsTruly, is_mended}, Sou
 use Rattle.rm_machine.specs.{State.{current_of, ledger, now_of, placed, world}, declared.state.State.{State}}
 use Rattle.rm_machine.proofs.{BackupMarks.{borne-marked, marked-same}, Damaged.{with_list}, Fitting.{place-fits}, Kept.{stand-same}}
 use Rattle.rm_machine.proofs.{Later.{borne-beside}, Mending.{AreDue, CanMend, Patch, can-events}, Places.{placed-is}, Putting.{sound-fewer}}
-use Rattle.rm_machine.proofs.{Repaired as shared, RepairAccepted.{CanRepair, can-repair}, Repaired.{marking}}
+use Rattle.rm_machine.proofs.{RepairAccepted.{CanRepair, can-repair}, Repaired.{marking}}
 use Rattle.rm_machine.proofs.{Repairs.{IsOfBlock, block-patched, due-front, due-mended, mended-due, patches, wanted}, Standing.{each-in}}
 use Rattle.rm_machine.proofs.{ToldRows.{CanStand, IsTargetNow, in-place-target, told-stand}, Walk.{CanGoOn, events-same}}
+use Rattle.rm_machine.proofs.Repaired as shared
 use Rattle.rm_machine_laws.proofs.{Agreeing.{evidence-agrees}, DamagedLists.{any-fewer, is-block, same-block}, Leading.{LeadsOnBy, StaysBy}}
 use Rattle.rm_machine_laws.proofs.{Mended.{Knows, KnowsRows, knows-events, left, left-from, row-events}, Quiet.{landed, same-stays}}
 

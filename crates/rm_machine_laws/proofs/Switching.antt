@@ -12,8 +12,9 @@ use Rattle.rm_machine.specs.Effect.{Effect, LeavesObjects, Made, a_log, done, no
 use Rattle.rm_machine.specs.{Machine.{IsTrueArtefact, HistoryFits, IsBorneOut}, Marks.{ids_refusal}, Sound.{IsOnline, IsSound}}
 use Rattle.rm_machine.specs.State.{ledger, is_lost, is_no_thread, online, redo_end, world}
 use Rattle.rm_machine.specs.SwitchLogfile.{archive_refusal, archived, is_due, log_entry, made_lines, none_lines, switch_refusal, with_archived}
-use Rattle.rm_machine.{specs.declared.state.State.{State}, proofs.{Switching as shared, Kept.{stand-same}, Later.{borne-beside}}}
+use Rattle.rm_machine.{specs.declared.state.State.{State}, proofs.{Kept.{stand-same}, Later.{borne-beside}}}
 use Rattle.rm_machine.proofs.{Switching.{CanArchive, due-parts, sound-after}, Threads.{thread-before, thread-of}}
+use Rattle.rm_machine.proofs.Switching as shared
 use Rattle.rm_lang_statement.specs.declared.command.Command.TheVariants.{SwitchLogfile}
 use Rattle.rm_machine_laws.proofs.{Leading.{LeadsOnBy, StaysBy}, Quiet.{quiet-on, same-stays, unchanged}}
 use Rattle.rm_machine_laws.proofs.NewObjects.{borne-logged, with_puts}

@@ -10,8 +10,10 @@ use Rattle.rm_machine.specs.{EnableThread.{enable_refusal, with_thread_on}, Soun
 use Rattle.rm_machine.specs.{Step.{IsOutcome, refusal_of}, SwitchLogfile.{is_due}, declared.state.State.{State}}
 use Rattle.rm_machine.proofs.Archives.{beside-thread, thread-either}
 use Rattle.rm_machine.proofs.{Disabling.{after-due, brought, can-disable, current-after, now-after, number}, Enabling.{can-enable}}
-use Rattle.rm_machine.proofs.{ThreadSwitches as shared, ThreadSwitches.{own-enabled}}
-use Rattle.rm_machine_laws.proofs.{ThreadSwitches as switching, Leading.{done-by}}
+use Rattle.rm_machine.proofs.ThreadSwitches.{own-enabled}
+use Rattle.rm_machine.proofs.ThreadSwitches as shared
+use Rattle.rm_machine_laws.proofs.Leading.{done-by}
+use Rattle.rm_machine_laws.proofs.ThreadSwitches as switching
 
 -- from the SCN of the switch on the thread is as it says, and elsewhere all is as before
 pub record IsSwitched (s t : State) (thread : ℕ) (on : Bool) : Type 0 where

@@ -1,6 +1,7 @@
 -- CHANGE BACKUP, DELETE BACKUP, CROSSCHECK and DELETE EXPIRED lead on.
 use Rattle.std.proofs.Common.{◌≡◌, ◌++◌, ℕ, List, [], ◌∷◌, None, Bool, true, false, refl}
-use Rattle.rm_base.specs.{Store.{Held}, declared.{block.Change.{Change}, kinds.{Class.{Class}, Status.{Status, TheVariants as status}}}}
+use Rattle.rm_base.specs.{Store.{Held}, declared.{block.Change.{Change}, kinds.{Class.{Class}, Status.{Status}}}}
+use Rattle.rm_base.specs.declared.kinds.Status.TheVariants as status
 use Rattle.rm_catalog.specs.declared.record.{LogEntry.{LogEntry}, PieceEntry.{PieceEntry}, SetEntry.{SetEntry}}
 use Rattle.rm_report.specs.declared.line.Line.{Line}
 use Rattle.rm_catalog_typed.specs.TypedCatalog.{TypedCatalog}

@@ -14,7 +14,8 @@ use Rattle.rm_history.proofs.{Ends.{owner-with_end}, Growth.{BaseAgrees-grown, L
 use Rattle.rm_history.proofs.{Histories.{IsChange-with_end, IsHistory-push, state-push_other}, States.{concerns-parts, concerns-from}}
 use Rattle.rm_history.proofs.Worlds.{file-there}
 use Rattle.rm_catalog_typed.proofs.Trees.{own-at_end}
-use Rattle.rm_piece.specs.{Artefacts as piece, declared.{piece.Piece.{Piece}, set.SetFile.{SetFile}}}
+use Rattle.rm_piece.specs.declared.{piece.Piece.{Piece}, set.SetFile.{SetFile}}
+use Rattle.rm_piece.specs.Artefacts as piece
 use Rattle.rm_redo.specs.{LogFile.{changes_in, log_of}, Online.{IsThread, record_of, thread_records, with_change}}
 use Rattle.rm_redo.specs.declared.online.LogRecord.{LogRecord}
 use Rattle.rm_redo.proofs.Logs.{around-with_change, first_of-with_change, inc-with_change, is_lost-with_change, thread_records-with_change, thread_records-with_change_other}

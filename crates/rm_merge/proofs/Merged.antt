@@ -8,7 +8,8 @@ use Rattle.rm_base.{specs.declared.kinds.Kind.TheVariants.{Full, Level0, Level1}
 use Rattle.rm_history.specs.{Agrees.{IsRow, BaseAgrees, Level1Agrees, lists}, Artefacts.{high_of}, History.{IsHistory}}
 use Rattle.rm_history.specs.{Tree.{IsThere, IsTree}, declared.{tree.Incarnation.{Incarnation}, world.World.{World}}}
 use Rattle.rm_history.proofs.{Highs.{high-least, high-above}, Segments.{is_within_alike}}
-use Rattle.rm_piece.{specs.{Valid as valid, Artefacts.{base_of, level1_of}, declared.piece.Piece.{Piece}}, proofs.Whole.{full}}
+use Rattle.rm_piece.{specs.{Artefacts.{base_of, level1_of}, declared.piece.Piece.{Piece}}, proofs.Whole.{full}}
+use Rattle.rm_piece.specs.Valid as valid
 use Rattle.rm_merge.{specs.Merge.{AreOf, Meets, row_at, greater, merged, merged_rows}, proofs.Agreement.{stays_listed, stays_unlisted}}
 
 lt_holds : (a b : ℕ) → nat_lt a b ≡ true → a < b

@@ -4,8 +4,9 @@ use Rattle.std.proofs.lemmas.{Bool.{cases_lt, eq-eqb, Decides.{nat_tests}}, List
 use Rattle.std.proofs.lemmas.List.{Folds.{list_any-from_Any}, Kept.{AllPairs-filter}}
 use Rattle.rm_base.specs.declared.{block.{Change.{Change}, Row.{Row}}, kinds.Kind.TheVariants.{Level1}}
 use Rattle.rm_base.proofs.Lists.{filter_from, filter_to}
-use Rattle.rm_history.specs.{Agrees as agrees, Agrees.{IsBelow, BaseAgrees, Level1Agrees, lists}, State.{state}, World.{blocks_of}}
+use Rattle.rm_history.specs.{Agrees.{IsBelow, BaseAgrees, Level1Agrees, lists}, State.{state}, World.{blocks_of}}
 use Rattle.rm_history.specs.declared.world.World.{World}
+use Rattle.rm_history.specs.Agrees as agrees
 use Rattle.rm_piece.specs.{Artefacts.{base_of, level1_of}, Level1s.{AreRead, IsRead, picked}, Rows.{from_on}}
 use Rattle.rm_piece.{specs.{Valid.{IsPiece, IsRow, IsBefore}, declared.piece.Piece.{Piece}}, proofs.Whole.{full, placed}}
 

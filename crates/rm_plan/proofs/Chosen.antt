@@ -5,7 +5,8 @@ use Rattle.std.proofs.lemmas.List.{take_more, Elements.{All-cons, All-nil}}
 use Rattle.rm_base.specs.declared.block.{Block.{Block}, BlockId.{BlockId}, Part.{Part}, Row.{Row}}
 use Rattle.rm_history.specs.{Evidence.{Evidence}, FirstGap.{IsDetermined}, declared.world.World.{World}}
 use Rattle.rm_plan.specs.{Blocks.{AreToldRows, NamesFirstOf}, Chosen.{AreToldParts, IsFaultOf, id_of, row_of}}
-use Rattle.rm_plan.specs.{Plan.{IsFault, NamesGap, Tells}, declared.plan.{Gap.{Gap}, PlanFault.{PlanFault, TheVariants as fault}}}
+use Rattle.rm_plan.specs.{Plan.{IsFault, NamesGap, Tells}, declared.plan.{Gap.{Gap}, PlanFault.{PlanFault}}}
+use Rattle.rm_plan.specs.declared.plan.PlanFault.TheVariants as fault
 
 module _ (w : World) (e : Evidence) (i s : ℕ) where
   -- rows of two lists of blocks

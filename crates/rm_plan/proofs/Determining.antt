@@ -6,11 +6,12 @@ use Rattle.rm_base.specs.{Content.{zero_block}, Numbers.{last_scn}, declared.blo
 use Rattle.rm_base.proofs.Lists.{any_from, any_to, map_from, map_to}
 use Rattle.rm_evidence.specs.{Known.{FitsLog, FitsPiece, FitsTree, known_of}, Database.{IsCreated, IsSoundWorld}}
 use Rattle.rm_evidence.specs.declared.evidence.Evidence.{Evidence}
-use Rattle.rm_history.specs.{Evidence as known, Agrees.{lists}, Artefacts.{Level1, Log}, Tree.{HasParentsBelow, IsThere, owner, reset_of}}
+use Rattle.rm_history.specs.{Agrees.{lists}, Artefacts.{Level1, Log}, Tree.{HasParentsBelow, IsThere, owner, reset_of}}
 use Rattle.rm_history.specs.{Threads.{IsEnabled, is_enabled}, World.{creation_of, file_of}, FirstGap.{HasGap, IsTarget}}
 use Rattle.rm_history.specs.Known.{Determined, HasLog, IsGreatest, Quiet, Seen, by_absence, by_creation, by_log, by_logs, by_row}
 use Rattle.rm_history.specs.{Unknown.{IsWorld}, declared.world.{Datafile.{Datafile}, World.{World}}}
 use Rattle.rm_history.proofs.{Owners.{owner-begun, owner-here}, Enabled.{enabled-owner}, Facts.{told-is-true, behind-a-gap}}
+use Rattle.rm_history.specs.Evidence as known
 use Rattle.rm_piece.specs.{Artefacts.{level1_of}, Valid.{IsRow}, declared.piece.Piece.{Piece}}
 use Rattle.rm_plan.specs.Covers.{is_covered, is_unlisted, level1_covers, log_covers, threads_cover}
 use Rattle.rm_plan.specs.Entries.{no_entry, entry_of, after_version, looked_on_way, after_own_row, after_counted_row, record_counts}

@@ -2,8 +2,8 @@
 use Rattle.std.{specs.Result.{IsErrAnd}, proofs.Common.{◌≡◌, ◌<◌, ℕ, List, Result, Ok, Err, IfErr, sym, subst}}
 use Rattle.rm_base.specs.declared.block.Part.{Part}
 use Rattle.rm_history.specs.{World.{blocks_of}, Evidence.{Evidence}, declared.world.World.{World}}
-use Rattle.rm_plan.specs.{Plan.{AreParts, IsFault, IsFileFault}, declared.plan.PlanFault.{PlanFault, TheVariants as fault}}
-use Rattle.rm_plan.proofs.Parts.{first_gap}
+use Rattle.rm_plan.{specs.{Plan.{AreParts, IsFault, IsFileFault}, declared.plan.PlanFault.{PlanFault}}, proofs.Parts.{first_gap}}
+use Rattle.rm_plan.specs.declared.plan.PlanFault.TheVariants as fault
 
 -- what is true of a fault is true of the one that is handed on
 pub handed_on : {T : Type 0} (r : Result T PlanFault) (x : PlanFault) → IsErrAnd r (λ e. e ≡ x) → (P : PlanFault → Type 0) → P x → IfErr r P

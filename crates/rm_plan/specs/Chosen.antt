@@ -2,7 +2,8 @@
 use Rattle.std.specs.Prelude.{ℕ, List, map}
 use Rattle.rm_base.specs.declared.block.{BlockId.{BlockId}, Part.{Part}, Row.{Row}}
 use Rattle.rm_history.specs.{Evidence.{Evidence}, declared.world.World.{World}}
-use Rattle.rm_plan.specs.{Blocks.{AreToldRows, NamesFirstOf}, declared.plan.PlanFault.{PlanFault, TheVariants as fault}}
+use Rattle.rm_plan.specs.{Blocks.{AreToldRows, NamesFirstOf}, declared.plan.PlanFault.{PlanFault}}
+use Rattle.rm_plan.specs.declared.plan.PlanFault.TheVariants as fault
 
 -- block b of datafile f
 abbrev pub id_of : ℕ → ℕ → BlockId

@@ -5,7 +5,8 @@ use Rattle.std.proofs.lemmas.List.Elements.{All-append, All-cons, All-head, All-
 use Rattle.rm_base.specs.declared.block.{BlockId.{BlockId}, Part.{Part}, Row.{Row}}
 use Rattle.rm_history.specs.{Evidence.{Evidence}, FirstGap.{IsDetermined, IsTarget}, declared.world.World.{World}}
 use Rattle.rm_plan.specs.{Blocks.{AreToldRows}, Chosen.{IsFaultOf, id_of, row_of}, Plan.{IsFileTarget}, declared.plan.PlanFault.{PlanFault}}
-use Rattle.rm_plan.{specs.declared.plan.PlanFault.TheVariants as fault, proofs.Chosen.{told-append, told-determined}}
+use Rattle.rm_plan.proofs.Chosen.{told-append, told-determined}
+use Rattle.rm_plan.specs.declared.plan.PlanFault.TheVariants as fault
 use Rattle.rm_repair.specs.{Jobs.{AreMendJobs, job_of, run_length}, declared.jobs.MendJob.{MendJob}}
 
 -- the blocks of a run are of the datafile

@@ -2,8 +2,9 @@
 use Rattle.std.proofs.Common.{◌≡◌, ◌<◌, ◌∙◌, ◌⊎◌, inl, inr, nat_lt, ℕ, List, [], refl, ap, sym, subst, arith, map, filter, Contains}
 use Rattle.std.proofs.lemmas.{List.Elements.{All-contains, Contains-append_cases}, Bool.{ltb-true}}
 use Rattle.rm_base.{specs.Store.{Held}, proofs.{Members.{none-in}, Lists.{filter_from, map_from, map_to}}}
-use Rattle.rm_catalog.specs.{Keys.{part_piece}, declared.record.{PieceEntry.{PieceEntry}, Record.{Record, TheVariants as records}}}
-use Rattle.rm_catalog.specs.declared.record.{SetEntry.{SetEntry}, SetPart.{SetPart}}
+use Rattle.rm_catalog.specs.{Keys.{part_piece}, declared.record.{PieceEntry.{PieceEntry}, Record.{Record}, SetEntry.{SetEntry}}}
+use Rattle.rm_catalog.specs.declared.record.SetPart.{SetPart}
+use Rattle.rm_catalog.specs.declared.record.Record.TheVariants as records
 use Rattle.rm_blocks.specs.File.{File}
 use Rattle.rm_evidence.specs.{Available.{HasPieceObject, HasSetObject}, Database.{Database, database_in, dbid_in}}
 use Rattle.rm_evidence.specs.{Gathered.{IsGathered, IsPieceAmong, IsBaseOf, IsLevel1Of, IsLogOf, placed, placed_piece}, Known.{known_of}}

@@ -3,7 +3,8 @@ use Rattle.std.proofs.Common.{◌≡◌, ◌<◌, ◌∙◌, ◌++◌, inl, inr,
 use Rattle.std.proofs.lemmas.{Bool.{lt-ltb, ltb-true}, List.Elements.{Contains-append_right, Contains-append_cases, filter-append}}
 use Rattle.std.proofs.lemmas.List.Kept.{AllPairs-filter}
 use Rattle.rm_base.{specs.{Store.{Held}, declared.kinds.Policy.{Policy}}, proofs.Lists.{filter_from, filter_to, map_from, map_to}}
-use Rattle.rm_catalog.specs.declared.record.Record.{Record, TheVariants as records}
+use Rattle.rm_catalog.specs.declared.record.Record.{Record}
+use Rattle.rm_catalog.specs.declared.record.Record.TheVariants as records
 use Rattle.rm_evidence.specs.Gathered.{ByIdAndFile, IsGathered, IsBaseOf, placed, placed_piece}
 use Rattle.rm_evidence.specs.{Database.{current_in, database_in, dbid_in, world_of}, declared.evidence.Evidence.{Evidence}}
 use Rattle.rm_evidence.{specs.declared.evidence.InPlace.{InPlace}, proofs.Extending.{only-in, pairs-append, pairs-head, pairs-tail}}

@@ -8,7 +8,8 @@ use Rattle.rm_history.specs.{Artefacts.{Base}, Threads.{IsEnabled}, Tree.{owner,
 use Rattle.rm_history.specs.{History.{IsChange, IsHistory}, Agrees.{IsRow, BaseAgrees, LogAgrees}, Evidence.{Agrees}}
 use Rattle.rm_history.specs.Known.{HasRow, in_base, in_level1, Seen, by_row, by_log, by_creation, Quiet, by_absence, by_logs, Determined}
 use Rattle.rm_history.specs.{FirstGap.{IsTarget, IsDetermined}, Unknown.{IsWorld}, declared.world.Datafile.{Datafile}}
-use Rattle.rm_history.proofs.{Example as known, Enabled.{unswitched}, Histories.{IsHistory-push_above}, Owners.{owner-first}}
+use Rattle.rm_history.proofs.{Enabled.{unswitched}, Histories.{IsHistory-push_above}, Owners.{owner-first}}
+use Rattle.rm_history.proofs.Example as known
 use Rattle.rm_retain.specs.Chosen.{IsChosen, chosen, floor}
 use Rattle.rm_retain.specs.Example.{world, change, history, row, first, second, late, log, before, after, backup, window}
 use Rattle.rm_retain.specs.Losing.{IsWhole, HasCopy, IsGone, LosesNeedless, FitsHistory}

@@ -1,8 +1,8 @@
 -- The records and the objects before and after obsolete records went.
 use Rattle.std.specs.Prelude.{◌≡◌, ◌⊎◌, List, Contains}
 use Rattle.rm_base.specs.Store.{Held}
-use Rattle.rm_catalog.specs.declared.record.{LogEntry.{LogEntry}, PieceEntry.{PieceEntry}, Record.{Record, TheVariants as records}}
-use Rattle.rm_catalog.specs.declared.record.SetEntry.{SetEntry}
+use Rattle.rm_catalog.specs.declared.record.{LogEntry.{LogEntry}, PieceEntry.{PieceEntry}, Record.{Record}, SetEntry.{SetEntry}}
+use Rattle.rm_catalog.specs.declared.record.Record.TheVariants as records
 use Rattle.rm_evidence.specs.Names.{log_name, piece_name, set_name}
 use Rattle.rm_retain.specs.{Chosen.{Retention}, Catalogued.{IsObsoleteRecord}}
 

@@ -5,10 +5,12 @@ use Rattle.rm_base.{specs.{Store.{Held}, declared.block.Change.{Change}}, proofs
 use Rattle.rm_catalog.specs.declared.record.PartEntry.{PartEntry}
 use Rattle.rm_history.specs.{Agrees.{BaseAgrees, LogAgrees}, declared.world.Datafile.{Datafile}}
 use Rattle.rm_catalog_typed.specs.{Ledger.{Ledger}, TypedCatalog.{Saved}, Worlds.{world_of}}
-use Rattle.rm_piece.specs.{Spelling as piece_format, Artefacts.{base_of}, Valid.{IsPiece}, declared.piece.Piece.{Piece}}
+use Rattle.rm_piece.specs.{Artefacts.{base_of}, Valid.{IsPiece}, declared.piece.Piece.{Piece}}
 use Rattle.rm_piece.proofs.Fitting.{spelling_same as piece_same}
-use Rattle.rm_redo.specs.{LogFormat as log_format, LogFile.{log_of}, LogFormat.{IsLogFile}, declared.log_file.LogFile.{LogFile}}
+use Rattle.rm_piece.specs.Spelling as piece_format
+use Rattle.rm_redo.specs.{LogFile.{log_of}, LogFormat.{IsLogFile}, declared.log_file.LogFile.{LogFile}}
 use Rattle.rm_redo.proofs.LogFitting.{spelling_same as log_same}
+use Rattle.rm_redo.specs.LogFormat as log_format
 use Rattle.rm_machine.specs.{Effect.{Artefact, Made, a_log, a_piece, a_set}, Machine.{IsTrueArtefact, PieceAgrees}}
 use Rattle.rm_machine.specs.{Rest.{HasPartArtefact, PartsTellFor}, Saved.{HasPart, IsGoodFile, IsGoodLog, IsOfPart, spelling_of}}
 

@@ -5,8 +5,12 @@ use Rattle.rm_catalog.specs.declared.record.PartEntry.{PartEntry}
 use Rattle.rm_history.specs.declared.world.Datafile.{Datafile}
 use Rattle.rm_catalog_typed.specs.{Ledger.{Ledger}, TypedCatalog.{Saved}}
 use Rattle.rm_machine.specs.{Loading.{IsTheOne}, Saved.{FitsInPlace, FitsOnline, HasPart, IsGoodFile, IsGoodLog, file_part, thread_part}}
-use Rattle.rm_piece.{specs.{Spelling as piece_format, declared.piece.Piece.{Piece}}, proofs.Fitting as pieces}
-use Rattle.rm_redo.{specs.{LogFormat as log_format, declared.log_file.LogFile.{LogFile}}, proofs.LogFitting as logs}
+use Rattle.rm_piece.specs.declared.piece.Piece.{Piece}
+use Rattle.rm_piece.specs.Spelling as piece_format
+use Rattle.rm_piece.proofs.Fitting as pieces
+use Rattle.rm_redo.specs.declared.log_file.LogFile.{LogFile}
+use Rattle.rm_redo.specs.LogFormat as log_format
+use Rattle.rm_redo.proofs.LogFitting as logs
 use Rattle.rm_session.specs.Fit.{HasLogPart, HasPiecePart, IsWhereFits, IsWhereLogFits}
 
 -- the store has one piece of a part at most, and one log

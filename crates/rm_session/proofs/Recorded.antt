@@ -3,8 +3,8 @@ use Rattle.std.{specs.List.{filter_map}, proofs.Common.{◌≡◌, ◌∙◌, �
 use Rattle.std.proofs.lemmas.List.{append-nil, append_assoc}
 use Rattle.rm_base.specs.declared.block.Mark.{Mark}
 use Rattle.rm_catalog.specs.{Keys.{head_in, part_in}, declared.record.{BaseEntry.{BaseEntry}, HeadEntry.{HeadEntry}, LogEntry.{LogEntry}}}
-use Rattle.rm_catalog.specs.declared.record.{PartEntry.{PartEntry}, PieceEntry.{PieceEntry}, Record.{Record, TheVariants as kind}}
-use Rattle.rm_catalog.specs.declared.record.SetEntry.{SetEntry}
+use Rattle.rm_catalog.specs.declared.record.{PartEntry.{PartEntry}, PieceEntry.{PieceEntry}, Record.{Record}, SetEntry.{SetEntry}}
+use Rattle.rm_catalog.specs.declared.record.Record.TheVariants as kind
 use Rattle.rm_history.specs.declared.{tree.Incarnation.{Incarnation}, world.Datafile.{Datafile}}
 use Rattle.rm_catalog_typed.specs.Kinds.{ledger_in, saved_in}
 use Rattle.rm_catalog_typed.specs.Ledger.{Ledger, datafile_record, incarnation_record, mark_record, numbered, switch_record}

@@ -7,8 +7,12 @@ use Rattle.rm_catalog.specs.declared.record.{BaseEntry.{BaseEntry}, HeadEntry.{H
 use Rattle.rm_catalog.specs.declared.record.{PieceEntry.{PieceEntry}, SetEntry.{SetEntry}}
 use Rattle.rm_evidence.specs.Gathered.{placed_piece}
 use Rattle.rm_history.specs.Tree.{IsThere}
-use Rattle.rm_piece.{specs.Spelling as piece, proofs.{Bodies as piece_bodies, Fitting as piece_fitting}}
-use Rattle.rm_redo.{specs.LogFormat as log, proofs.{LogBodies as log_bodies, LogFitting as log_fitting}}
+use Rattle.rm_piece.specs.Spelling as piece
+use Rattle.rm_piece.proofs.Bodies as piece_bodies
+use Rattle.rm_piece.proofs.Fitting as piece_fitting
+use Rattle.rm_redo.specs.LogFormat as log
+use Rattle.rm_redo.proofs.LogBodies as log_bodies
+use Rattle.rm_redo.proofs.LogFitting as log_fitting
 use Rattle.rm_catalog_typed.specs.{Changes.{with_base}, Facts.{AreApart, IsPartEntry, IsTypedCatalog, IsSaved}, Fitting.{FitsBase}}
 use Rattle.rm_catalog_typed.{specs.TypedCatalog.{TypedCatalog, Saved}, proofs.{Changed.{saved_fits}, Fitted.{base_fits}}}
 use Rattle.rm_machine.specs.{Marks.{lacks_ids}, Saving.{SitePart, entry_of, head_of, object_of, parts_of, saved_of, with_ids, with_site}}

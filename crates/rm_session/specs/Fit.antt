@@ -10,8 +10,10 @@ use Rattle.rm_machine.specs.{Saved.{FitsInPlace, FitsOnline, HasPart, IsGoodLog}
 use Rattle.rm_machine.specs.{State.{has_lost, current_of, ledger, now_of, world}, Tracked.{first_tracker}}
 use Rattle.rm_machine.specs.declared.state.{Instance.{Instance}, State.{State}}
 use Rattle.rm_evidence.specs.Objects.{HasDigest}
-use Rattle.rm_piece.specs.{Spelling as piece_format, Valid.{IsPiece}, declared.piece.Piece.{Piece}}
-use Rattle.rm_redo.specs.{LogFormat as log_format, LogFormat.{IsLogFile}, Logs.{Logs}, declared.log_file.LogFile.{LogFile}}
+use Rattle.rm_piece.specs.{Valid.{IsPiece}, declared.piece.Piece.{Piece}}
+use Rattle.rm_piece.specs.Spelling as piece_format
+use Rattle.rm_redo.specs.{LogFormat.{IsLogFile}, Logs.{Logs}, declared.log_file.LogFile.{LogFile}}
+use Rattle.rm_redo.specs.LogFormat as log_format
 
 -- the bytes have the digest of the part, and spell this piece
 pub record IsPieceOf (p : PartEntry) (bytes : List ℕ) (a : Piece) : Type 0 where

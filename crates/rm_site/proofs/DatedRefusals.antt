@@ -4,8 +4,10 @@ use Rattle.std.proofs.Common.{◌≡◌, ℕ, Bool, true, false, List, Option, S
 use Rattle.rm_base.specs.declared.refusal.Refusal.{Refusal}
 use Rattle.rm_lang_statement.specs.declared.command.{BackupForm.{BackupForm}, Command.{Command}}
 use Rattle.rm_lang_statement.specs.declared.command.Command.TheVariants.{ArchiveLogCurrent, Backup, BackupFrom, BackupLogs, BlockRecover, ChangeBackup, Corrupt, CreateDatabase, CreateDatafile, Crosscheck, Cut, Damage, DeleteBackup, DeleteExpired, DeleteObsolete, Dump, LoseDatafile, LoseLog, Mount, OpenPlain, OpenResetlogs, Parallelism, Preview, Recover, RecoverCopy, RecoverTest, Remove, Rename, ResetDatabase, Restore, Retention, SwitchLogfile, SwitchThread, Tracking, Write}
-use Rattle.rm_lang_statement.specs.declared.command.{RepairForm.{RepairForm}, RetentionForm.{RetentionForm, TheVariants as form}}
-use Rattle.rm_lang_statement.specs.declared.command.{Until.{Until, TheVariants as until}, WriteForm.{WriteForm}}
+use Rattle.rm_lang_statement.specs.declared.command.{RepairForm.{RepairForm}, RetentionForm.{RetentionForm}, Until.{Until}}
+use Rattle.rm_lang_statement.specs.declared.command.WriteForm.{WriteForm}
+use Rattle.rm_lang_statement.specs.declared.command.RetentionForm.TheVariants as form
+use Rattle.rm_lang_statement.specs.declared.command.Until.TheVariants as until
 use Rattle.rm_history.specs.declared.world.Datafile.{Datafile}
 use Rattle.rm_report.specs.Reply.{HasDate}
 use Rattle.rm_machine.specs.{Archive.{archive_all_refusal, archiving_refusal}, BackupRefusal.{backup_refusal, damage_refusal, room_refusal}}

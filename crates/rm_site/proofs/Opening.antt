@@ -4,10 +4,12 @@ use Rattle.std.proofs.{Common.{◌≡◌, ◌∙◌, List, Option, Some, None, I
 use Rattle.std.proofs.lemmas.List.Sorted.{IsPermutation-sym, IsPermutation-trans}
 use Rattle.rm_base.specs.Store.{Held}
 use Rattle.rm_catalog.specs.{Faults.{Answers, IsBadRow, IsTaken}, Keys.{Ascends, InOrder}, Rules.{IsOrderOf, IsValid}}
-use Rattle.rm_catalog.specs.declared.catalog.CatalogFault.{CatalogFault, TheVariants as catalog, TheVariants.{BadRow}}
-use Rattle.rm_catalog.{specs.declared.record.Record.{Record}, proofs.Ascending.{loaded_in_order}}
+use Rattle.rm_catalog.specs.declared.{catalog.CatalogFault.{CatalogFault, TheVariants.{BadRow}}, record.Record.{Record}}
+use Rattle.rm_catalog.proofs.Ascending.{loaded_in_order}
+use Rattle.rm_catalog.specs.declared.catalog.CatalogFault.TheVariants as catalog
 use Rattle.rm_catalog_typed.{specs.{Loading.{records_in}, TypedCatalog.{TypedCatalog, all_records}}, proofs.Valid.{typed_catalog-valid}}
-use Rattle.rm_evidence.specs.declared.gathering.EvidenceFault.{EvidenceFault, TheVariants as evidence}
+use Rattle.rm_evidence.specs.declared.gathering.EvidenceFault.{EvidenceFault}
+use Rattle.rm_evidence.specs.declared.gathering.EvidenceFault.TheVariants as evidence
 use Rattle.rm_machine.specs.{Loading.{IsLoaded}, Machine.{Machine}, Rest.{HaveParts, IsSoundRest, IsSoundRestBy, Rest, Wakes, catalog_in}}
 use Rattle.rm_machine.specs.{Sound.{IsSound}, declared.state.State.{State}}
 use Rattle.rm_session.proofs.{Recorded.{one-catalog}, Waking.{waking-sound}}

@@ -1,9 +1,13 @@
 -- Which fault a failed call makes of the opening of a site, and which stop of a statement.
 use Rattle.std.specs.Prelude.{List}
-use Rattle.rm_catalog.specs.{Faults.{IsBadRow}, declared.catalog.CatalogFault.{CatalogFault, TheVariants as catalog}}
-use Rattle.rm_catalog.specs.declared.{keeper.KeeperFail.{KeeperFail, TheVariants as keeper}, record.Record.{Record}}
-use Rattle.rm_commit.specs.declared.commit.Stop.{Stop, TheVariants as stop}
-use Rattle.rm_evidence.specs.declared.gathering.EvidenceFault.{EvidenceFault, TheVariants as evidence}
+use Rattle.rm_catalog.specs.{Faults.{IsBadRow}, declared.{catalog.CatalogFault.{CatalogFault}, keeper.KeeperFail.{KeeperFail}}}
+use Rattle.rm_catalog.specs.declared.record.Record.{Record}
+use Rattle.rm_catalog.specs.declared.catalog.CatalogFault.TheVariants as catalog
+use Rattle.rm_catalog.specs.declared.keeper.KeeperFail.TheVariants as keeper
+use Rattle.rm_commit.specs.declared.commit.Stop.{Stop}
+use Rattle.rm_commit.specs.declared.commit.Stop.TheVariants as stop
+use Rattle.rm_evidence.specs.declared.gathering.EvidenceFault.{EvidenceFault}
+use Rattle.rm_evidence.specs.declared.gathering.EvidenceFault.TheVariants as evidence
 use Rattle.rm_site.specs.{Opens.{AreValid}, declared.open.OpenFault.{OpenFault, TheVariants.{BadRow, StoreFault, KeeperFault, NoMemory}}}
 
 -- a fault of the keeper, or no memory

@@ -10,7 +10,8 @@ use Rattle.rm_machine.specs.{Backup.{grouped, is_copy}, Lists.{packing_by, shape
 use Rattle.rm_machine.specs.{MadePieces.{Copied, entry_for, piece_by}, MadeSets.{InSet, member_by, set_entry_for, set_of}, State.{ledger}}
 use Rattle.rm_machine.specs.declared.{job.Job.{Job}, state.State.{State}}
 use Rattle.rm_piece.specs.{SetSpelling.{set_spelling, spelled}, Sets.{IsSet}, Spelling.{spelling}, Valid.{IsPiece}}
-use Rattle.rm_report.specs.declared.line.{Line.{Line, TheVariants.{BackedUp}}, Packing.TheVariants as packing}
+use Rattle.rm_report.specs.declared.line.Line.{Line, TheVariants.{BackedUp}}
+use Rattle.rm_report.specs.declared.line.Packing.TheVariants as packing
 use Rattle.rm_step_backup.specs.declared.making.{Entry.{Entry, TheVariants.{OfPiece, OfSet}}, Made.{Made}, Told.{Told}}
 use Rattle.rm_step_backup.specs.declared.reading.{FileRead.{FileRead}, Read.{Read, TheVariants.{OfOne, OfSeveral}}}
 

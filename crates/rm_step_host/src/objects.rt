@@ -1,7 +1,7 @@
 //! HOST REMOVE 'name', HOST DAMAGE 'name' AT n, HOST CUT 'name' TO n and HOST RENAME 'name' TO 'name'
 ghost use Rattle.std.specs.Prelude.{◌≡◌, ◌≤◌, ◌<◌, ◌∷◌, [], All, IfErr, IfOk, IsErrOf, length, take};
-ghost use Rattle.rm_base.specs.{Outside.{Rose}, declared.refusal.Refusal.TheVariants as refusal};
-ghost use Rattle.rm_base.specs.declared.refusal.Unknown.TheVariants.{Byte, Object as NoObject};
+ghost use Rattle.rm_base.specs.{Outside.{Rose}, declared.refusal.Unknown.TheVariants.{Byte, Object as NoObject}};
+ghost use Rattle.rm_base.specs.declared.refusal.Refusal.TheVariants as refusal;
 ghost use Rattle.rm_commit.specs.declared.commit.Stop.TheVariants.{KeeperFault, StoreFault};
 ghost use Rattle.rm_lang_statement.specs.declared.command.Command.TheVariants.{Cut, Damage, Remove, Rename};
 ghost use Rattle.rm_machine.specs.{Mishaps.{damaged}, Hands.{Hands, Refuses}};

@@ -7,7 +7,8 @@ use Rattle.rm_history.specs.{Tree.{IsThere}, declared.{tree.Incarnation.{Incarna
 use Rattle.rm_plan.specs.Plan.{IsFileTarget}
 use Rattle.rm_catalog_typed.{specs.TypedCatalog.{records_of}, proofs.Records.{tree-told, world-told}}
 use Rattle.rm_apply.specs.{Files.{AreExactly, IsAsked}, Recover.{outside, until_in}, declared.targets.TargetFile.{TargetFile}}
-use Rattle.rm_apply.{specs.declared.fault.RecoverFault.{RecoverFault, TheVariants as kind}, proofs.Numbers.{unnamed}}
+use Rattle.rm_apply.{specs.declared.fault.RecoverFault.{RecoverFault}, proofs.Numbers.{unnamed}}
+use Rattle.rm_apply.specs.declared.fault.RecoverFault.TheVariants as kind
 use Rattle.rm_lang_statement.specs.declared.command.Until.{Until}
 use Rattle.rm_machine.specs.{Recover.{recover_target}, Recovery.{in_place, range_refusal}, Restore.{preview_refusal}, Sound.{IsSound}}
 use Rattle.rm_machine.{specs.{State.{current_of, tree, world}, declared.state.State.{State}}, proofs.Fitting.{place-fits}}

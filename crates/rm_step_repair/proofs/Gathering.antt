@@ -6,7 +6,8 @@ use Rattle.rm_catalog_typed.{specs.TypedCatalog.{records_of}, proofs.Records.{tr
 use Rattle.rm_evidence.specs.{Database.{world_of}, Gathered.{IsGathered}, Known.{FitsTree, known_of}, Place.{FitsPlace}, Seen.{IsSeen}}
 use Rattle.rm_evidence.{specs.declared.evidence.{Evidence.{Evidence}, InPlace.{InPlace}}, proofs.Seen.{seen-told}}
 use Rattle.rm_history.specs.{FirstGap.{IsTarget}, declared.tree.Incarnation.{Incarnation}}
-use Rattle.rm_plan.specs.{Chosen.{IsFaultOf}, declared.plan.{Gap.{Gap}, PlanFault.{PlanFault, TheVariants as kind}}}
+use Rattle.rm_plan.specs.{Chosen.{IsFaultOf}, declared.plan.{Gap.{Gap}, PlanFault.{PlanFault}}}
+use Rattle.rm_plan.specs.declared.plan.PlanFault.TheVariants as kind
 use Rattle.rm_repair.specs.Jobs.{AreMendJobs}
 use Rattle.rm_machine.specs.{Recovery.{IsAtHand, in_place}, Sound.{IsSound}, State.{current_of, now_of, world}}
 use Rattle.rm_machine.{specs.declared.state.State.{State}, proofs.Fitting.{gathered-hand, place-fits}}

@@ -6,7 +6,8 @@ use Rattle.rm_evidence.specs.{Known.{FitsTree, known_of}, declared.evidence.Evid
 use Rattle.rm_lang_statement.specs.declared.command.RepairForm.{RepairForm}
 use Rattle.rm_live.specs.{Parts.{row_at}, declared.history.{Answer.TheVariants.{Mended}, Call.TheVariants.{Mend}}}
 use Rattle.rm_repair.specs.{Jobs.{AreMendJobs}, Mended.{HasBlock, IsOlder, mended}, declared.jobs.MendJob.{MendJob}}
-use Rattle.rm_report.specs.{Reply.{IsPlain}, declared.line.Line.{Line, TheVariants as line, TheVariants.{ThreadScn}}}
+use Rattle.rm_report.specs.{Reply.{IsPlain}, declared.line.Line.{Line, TheVariants.{ThreadScn}}}
+use Rattle.rm_report.specs.declared.line.Line.TheVariants as line
 use Rattle.rm_machine.specs.{BackupOutcome.{write_lines}, BlockRecover.{asks_for, blocks_mended, mend_lines, mends_of}, Damage.{IsInPlace}}
 use Rattle.rm_machine.specs.{Events.{opening, standing_in}, Sound.{IsSound}, State.{current_of, now_of, tree, world}}
 use Rattle.rm_machine.{specs.declared.state.State.{State}, proofs.ToldRows.{CanStand, IsTargetNow, in-place-target, told-stand}}

@@ -2,7 +2,8 @@
 use Rattle.std.specs.Option.{option_and_then, option_map, option_map_or}
 use Rattle.std.proofs.Common.{◌≡◌, ◌<◌, ◌≤◌, ◌∙◌, inl, inr, ℕ, List, Option, Some, None, Bool, nat_le, refl, ap, sym, subst, arith, find, Contains}
 use Rattle.std.proofs.lemmas.Bool.{cases_lt, le-leb}
-use Rattle.rm_base.{specs.declared.refusal.Absent.{Absent, TheVariants as absent}, proofs.Lists.{find_cases, find_none}}
+use Rattle.rm_base.{specs.declared.refusal.Absent.{Absent}, proofs.Lists.{find_cases, find_none}}
+use Rattle.rm_base.specs.declared.refusal.Absent.TheVariants as absent
 use Rattle.rm_history.specs.declared.world.Datafile.{Datafile}
 use Rattle.rm_lang_statement.specs.declared.command.NamedBlocks.{NamedBlocks}
 use Rattle.rm_machine.specs.{BlockRecoverRefusal.{absent_named}, Sound.{IsSound}, State.{on_path}, declared.state.State.{State}}

@@ -5,7 +5,8 @@ use Rattle.rm_evidence.specs.{Known.{FitsTree, known_of}, declared.evidence.Evid
 use Rattle.rm_history.specs.FirstGap.{IsTarget}
 use Rattle.rm_plan.specs.{Blocks.{NamesFirstOf}, declared.plan.Gap.{Gap}}
 use Rattle.rm_repair.specs.{Jobs.{AreMendJobs}, declared.jobs.MendJob.{MendJob}}
-use Rattle.rm_report.specs.declared.line.Line.{Line, TheVariants as line}
+use Rattle.rm_report.specs.declared.line.Line.{Line}
+use Rattle.rm_report.specs.declared.line.Line.TheVariants as line
 use Rattle.rm_machine.specs.{Recovery.{IsAtHand}, State.{current_of, now_of, tree, world}, declared.state.State.{State}}
 use Rattle.rm_step_repair.specs.declared.telling.Told.{Told}
 

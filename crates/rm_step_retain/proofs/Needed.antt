@@ -7,7 +7,8 @@ use Rattle.rm_base.specs.Store.{Held}
 use Rattle.rm_evidence.specs.declared.evidence.Evidence.{Evidence}
 use Rattle.rm_history.specs.{Tree.{end_of}, World.{exists, file_of}, declared.world.{Datafile.{Datafile}, World.{World}}}
 use Rattle.rm_history.proofs.Worlds.{file-there}
-use Rattle.rm_report.specs.declared.line.Line.{Line, TheVariants as line}
+use Rattle.rm_report.specs.declared.line.Line.{Line}
+use Rattle.rm_report.specs.declared.line.Line.TheVariants as line
 use Rattle.rm_retain.specs.{Chosen.{chosen, wanted}, Obsolete.{IsOnPath}}
 use Rattle.rm_lang_statement.specs.declared.command.Command.TheVariants.{ReportNeedBackup}
 use Rattle.rm_machine.specs.{Effect.{told}, Hands.{Tells}, Obsolete.{NeedsBackup, retention_of}, Recovery.{IsAtHand}}

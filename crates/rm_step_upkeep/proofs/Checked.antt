@@ -11,7 +11,8 @@ use Rattle.rm_lang_statement.specs.declared.command.Command.TheVariants.{Crossch
 use Rattle.rm_verify.specs.Crosscheck.{IsChecked, stands_in}
 use Rattle.rm_machine.specs.{Effect.{no_effect}, Hands.{Hands}, Upkeep.{with_catalog, with_statuses}, declared.handed.Handed.{Handed}}
 use Rattle.rm_machine.{specs.declared.state.State.{State}, proofs.Handing.{hands-by}}
-use Rattle.rm_step_upkeep.specs.{Amended.{amended}, Lines.{status_line}, declared.amending.Amendment.TheVariants as by}
+use Rattle.rm_step_upkeep.specs.{Amended.{amended}, Lines.{status_line}}
+use Rattle.rm_step_upkeep.specs.declared.amending.Amendment.TheVariants as by
 
 -- none of its lines is a refusal
 dated : (xs : List (ℕ × Status)) → All IsPlain (map status_line xs)

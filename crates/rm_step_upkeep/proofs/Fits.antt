@@ -6,7 +6,8 @@ use Rattle.rm_catalog.specs.declared.record.{LogEntry.{LogEntry}, PieceEntry.{Pi
 use Rattle.rm_catalog_typed.specs.{Facts.{IsTypedCatalog}, Fitting.{FitsLog, FitsPiece, FitsSet}, TypedCatalog.{TypedCatalog}}
 use Rattle.rm_machine.specs.{Sound.{IsSound}, Upkeep.{log_changed, piece_changed, set_changed, with_catalog}, declared.state.State.{State}}
 use Rattle.rm_machine.proofs.Entries.{LogAs, PieceAs, SetAs, log-as-fits, log-on, piece-as-fits, piece-on, set-as-fits, set-on}
-use Rattle.rm_step_upkeep.specs.{Amended.{log_by, piece_by, set_by}, declared.amending.Amendment.{Amendment, TheVariants as by}}
+use Rattle.rm_step_upkeep.specs.{Amended.{log_by, piece_by, set_by}, declared.amending.Amendment.{Amendment}}
+use Rattle.rm_step_upkeep.specs.declared.amending.Amendment.TheVariants as by
 
 -- only its status and its keep change
 pub log-by-as : (a : Amendment) → LogAs (log_by a)

@@ -18,7 +18,9 @@ use Rattle.rm_piece.proofs.{Fitting.{few_rows, fits as piece-fits, spelling_same
 use Rattle.rm_redo.specs.{LogFormat.{IsLogFile, body_of as log_body, spelling as log_spelling}, declared.log_file.LogFile.{LogFile}}
 use Rattle.rm_redo.proofs.{LogBodies.{length-body as length-log}, LogFitting.{fits as log-fits, spelling_same as same-log}}
 use Rattle.rm_step_upkeep.specs.Catalogued.{Finds, IsBackup, IsEntryOf, IsLogHere, IsOf, IsPieceHere, IsReadAs, ReadsAs, id_in, name_by, named_of}
-use Rattle.rm_step_upkeep.specs.declared.{finding.Entry.{Entry, TheVariants as entry}, naming.Named.{Named, TheVariants as named}}
+use Rattle.rm_step_upkeep.specs.declared.{finding.Entry.{Entry}, naming.Named.{Named}}
+use Rattle.rm_step_upkeep.specs.declared.finding.Entry.TheVariants as entry
+use Rattle.rm_step_upkeep.specs.declared.naming.Named.TheVariants as named
 
 -- What a name tells
 

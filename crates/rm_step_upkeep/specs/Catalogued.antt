@@ -12,7 +12,9 @@ use Rattle.rm_machine.specs.{Machine.{IsValidArtefact}, Marks.{lacks_bytes, lack
 use Rattle.rm_machine.specs.{SwitchLogfile.{log_entry}, Upkeep.{is_unknown}, declared.state.State.{State}}
 use Rattle.rm_piece.specs.declared.piece.Piece.{Piece}
 use Rattle.rm_redo.specs.declared.log_file.LogFile.{LogFile}
-use Rattle.rm_step_upkeep.specs.declared.{finding.Entry.{Entry, TheVariants as entry}, naming.Named.{Named, TheVariants as named}}
+use Rattle.rm_step_upkeep.specs.declared.{finding.Entry.{Entry}, naming.Named.{Named}}
+use Rattle.rm_step_upkeep.specs.declared.finding.Entry.TheVariants as entry
+use Rattle.rm_step_upkeep.specs.declared.naming.Named.TheVariants as named
 
 -- What a name is of
 

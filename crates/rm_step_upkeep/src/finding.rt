@@ -5,8 +5,10 @@ ghost use Rattle.rm_base.specs.Outside.{Rose};
 ghost use Rattle.rm_commit.specs.declared.commit.Stop.TheVariants.{KeeperFault, StoreFault};
 ghost use Rattle.rm_evidence.specs.Objects.{piece_entry};
 ghost use Rattle.rm_machine.specs.{Sound.{IsSound}, State.{ledger}};
-ghost use Rattle.rm_piece.specs.{Spelling as piece, Valid.{IsPiece}, declared.piece.Piece.{Piece}};
-ghost use Rattle.rm_redo.specs.{LogFormat as log, LogFormat.{IsLogFile}, declared.log_file.LogFile.{LogFile}};
+ghost use Rattle.rm_piece.specs.{Valid.{IsPiece}, declared.piece.Piece.{Piece}};
+ghost use Rattle.rm_piece.specs.Spelling as piece;
+ghost use Rattle.rm_redo.specs.{LogFormat.{IsLogFile}, declared.log_file.LogFile.{LogFile}};
+ghost use Rattle.rm_redo.specs.LogFormat as log;
 ghost use Rattle.rm_step_upkeep.specs.Catalogued.{Finds, IsBackup, IsLogHere, IsOf, IsOfDatafile, IsPieceHere, ReadsAs, id_of, inc_of, size_of, top_of};
 ghost use Rattle.rm_step_upkeep.specs.declared.naming.Named.TheVariants as named;
 

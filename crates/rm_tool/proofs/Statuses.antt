@@ -5,7 +5,8 @@ use Rattle.rm_base.specs.{Outside.{Rose}, Store.{Held}}
 use Rattle.rm_catalog.specs.declared.record.Record.{Record}
 use Rattle.rm_tool_opening.{specs.{Opens.{AreValid}, Opening.{TellsValid}}, proofs.Source.{none-bad, told-valid}}
 use Rattle.rm_tool.specs.{Early.{Faults, Leaves, RoseFor, status_for, status_of}, Run.{Watch}, Session.{IsDone, IsEarly, NoneRan}}
-use Rattle.rm_tool.specs.{Words.{accepts}, declared.early.Early.{Early, TheVariants as early}}
+use Rattle.rm_tool.specs.{Words.{accepts}, declared.early.Early.{Early}}
+use Rattle.rm_tool.specs.declared.early.Early.TheVariants as early
 
 -- how a run ended that has this status
 abbrev pub of_status : ℕ → Option Early

@@ -3,7 +3,8 @@ use Rattle.std.specs.Prelude.{ℕ, ◌≡◌, ◌<◌, ◌+◌, ◌++◌, ◌⊎
 use Rattle.std.specs.List.{list_any}
 use Rattle.rm_base.specs.{Outside.{Appends}, Store.{Held, Answers, Both}}
 use Rattle.rm_catalog.specs.declared.record.Record.{Record}
-use Rattle.rm_commit.specs.declared.commit.Stop.{Stop, TheVariants as stop}
+use Rattle.rm_commit.specs.declared.commit.Stop.{Stop}
+use Rattle.rm_commit.specs.declared.commit.Stop.TheVariants as stop
 use Rattle.rm_lang_statement.specs.declared.command.{Command.{Command}, Inner.{Inner}, Statement.{Statement}}
 use Rattle.rm_lang_statement.specs.declared.command.Statement.TheVariants.{Plain, Run as Block}
 use Rattle.rm_tool.specs.Block.{BlockLeaves, BlockSteps, InnerLeaves, InnerStep, IsHonestAt, IsHonestInside, unset}
@@ -11,7 +12,8 @@ use Rattle.rm_tool.specs.{Built.{statement_built_at}, Comes.{AtHand, BlockComes,
 use Rattle.rm_tool.specs.Quiet.{are_quiet, is_quiet_statement, only_tells_statement}
 use Rattle.rm_tool.specs.Drill.{IsTally, drill_line, output_of, output_so_far}
 use Rattle.rm_tool.specs.Run.{StatementStep, Run, RunsWhereHonest, IsHonestAlong, IsHonestWithin, past, behind, AreToCome, Watch, WasAskedFor, asks, replies_text}
-use Rattle.rm_tool.specs.declared.{block.Settings.{Settings}, session.Halt.{Halt, TheVariants as halt}, tally.Tally.{Tally}}
+use Rattle.rm_tool.specs.declared.{block.Settings.{Settings}, session.Halt.{Halt}, tally.Tally.{Tally}}
+use Rattle.rm_tool.specs.declared.session.Halt.TheVariants as halt
 use Rattle.rm_lang_token.specs.declared.token.Token.{Token}
 use Rattle.rm_report.specs.{Reply.{IsFlagged}, Text.{reply_text}, declared.line.Reply.{Reply}}
 use Rattle.rm_machine.specs.{Machine.{Machine}, Rest.{Rest, at_rest}, declared.state.State.{State}}

@@ -7,8 +7,8 @@ use Rattle.rm_base.specs.{Outside.{Rose}, Store.{Held}}
 use Rattle.rm_shelf.specs.Shelved.{Shelved}
 use Rattle.rm_tool_opening.{specs.Opens.{AreValid}, proofs.Source.{none-bad, told-valid}}
 use Rattle.rm_tool_duplicate.specs.{Asked.{Sides, sides}, Ended.{Finishes, Leaves}}
-use Rattle.rm_tool_ends.specs.{Ended.{Counts, RoseFor, status_of}, declared.ended.Ended.{Ended, TheVariants as ended}}
-use Rattle.rm_tool_ends.proofs.Statuses.{ended-at, of_status}
+use Rattle.rm_tool_ends.{specs.{Ended.{Counts, RoseFor, status_of}, declared.ended.Ended.{Ended}}, proofs.Statuses.{ended-at, of_status}}
+use Rattle.rm_tool_ends.specs.declared.ended.Ended.TheVariants as ended
 
 module _ {A : Type 0} (x : DuplicateSaid) (a b : Sides) (before now : Option (List ℕ)) (rs : List Record) (kept : a.source ≡ Some rs) where
   -- the source's records are not valid

@@ -7,7 +7,8 @@ use Rattle.rm_lang_words.specs.Duplicate.{DuplicateSaid}
 use Rattle.rm_tool_opening.specs.Opening.{BeginsBadRecord, TellsValid, WritesBadRecord}
 use Rattle.rm_tool_duplicate.specs.{Asked.{Sides}, Duplicated.{Makes, commit_of, lines_text}, Refused.{Refuses}}
 use Rattle.rm_tool_duplicate.specs.declared.preparing.Ready.{Ready}
-use Rattle.rm_tool_ends.specs.{Writing.{WritesFront, refusal_line}, declared.ended.Ended.{Ended, TheVariants as ended}}
+use Rattle.rm_tool_ends.specs.{Writing.{WritesFront, refusal_line}, declared.ended.Ended.{Ended}}
+use Rattle.rm_tool_ends.specs.declared.ended.Ended.TheVariants as ended
 
 -- What is ready to be carried out and told: the change of a duplicate, and the text of its lines.
 pub record IsReady (x : DuplicateSaid) (a : Sides) (ready : Ready) : Type 0 where

@@ -1,7 +1,8 @@
 -- What a status tells of how a call ended.
 use Rattle.std.specs.Prelude.{IfErr}
 use Rattle.std.proofs.Common.{◌≡◌, ◌==◌, ℕ, zero, suc, arith, [], ◌∷◌, Option, Some, None, Result, Ok, Err, Contains, if◌then◌else◌, lit<, refl, ap, subst, ◌∙◌}
-use Rattle.rm_tool_ends.specs.{Ended.{status_of}, declared.ended.Ended.{Ended, TheVariants as ended}}
+use Rattle.rm_tool_ends.specs.{Ended.{status_of}, declared.ended.Ended.{Ended}}
+use Rattle.rm_tool_ends.specs.declared.ended.Ended.TheVariants as ended
 
 -- how it ended that has this status
 abbrev pub of_status : ℕ → Option Ended

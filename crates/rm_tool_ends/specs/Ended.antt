@@ -1,7 +1,8 @@
 -- What a call over a sink, two stores and what keeps the records tells of its end: whose count rose, and the status.
 use Rattle.std.specs.Prelude.{ℕ, ◌≡◌, ◌≤◌, ◌⊎◌, Result, Ok, Err}
 use Rattle.rm_base.specs.Outside.{Rose}
-use Rattle.rm_tool_ends.specs.declared.ended.Ended.{Ended, TheVariants as ended}
+use Rattle.rm_tool_ends.specs.declared.ended.Ended.{Ended}
+use Rattle.rm_tool_ends.specs.declared.ended.Ended.TheVariants as ended
 
 -- how often each has failed
 pub record Counts : Type 0 where

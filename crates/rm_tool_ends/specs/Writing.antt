@@ -2,7 +2,8 @@
 use Rattle.std.specs.Prelude.{ℕ, ◌≡◌, ◌<◌, ◌++◌, List, [], ◌∷◌, length, take, Option, codes}
 use Rattle.rm_base.specs.{Outside.{Appends, Rose}, declared.refusal.Refusal.{Refusal}}
 use Rattle.rm_report.specs.{Reply.{refused_by}, Text.{reply_text}}
-use Rattle.rm_tool_ends.specs.declared.ended.Ended.{Ended, TheVariants as ended}
+use Rattle.rm_tool_ends.specs.declared.ended.Ended.{Ended}
+use Rattle.rm_tool_ends.specs.declared.ended.Ended.TheVariants as ended
 
 -- some of the first bytes were written, not all of them, and no others
 abbrev pub WritesFront : Option (List ℕ) → Option (List ℕ) → List ℕ → Type 0

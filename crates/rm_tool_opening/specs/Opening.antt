@@ -3,10 +3,12 @@ use Rattle.std.specs.{Prelude.{ℕ, ◌≡◌, Option, List, [], ◌∷◌, ◌+
 use Rattle.rm_base.specs.{Outside.{Appends, Rose}, Store.{Held}}
 use Rattle.rm_catalog.specs.{Faults.{IsBadRow}, declared.{catalog.CatalogFault.TheVariants.{BadRow}, record.{Key.{Key}, Record.{Record}}}}
 use Rattle.rm_machine.specs.{Machine.{Machine}, Rest.{PartsTell, Rest, Wakes}}
-use Rattle.rm_tool_ends.specs.{Writing.{WritesFront}, declared.ended.Ended.{Ended, TheVariants as ended}}
+use Rattle.rm_tool_ends.specs.{Writing.{WritesFront}, declared.ended.Ended.{Ended}}
+use Rattle.rm_tool_ends.specs.declared.ended.Ended.TheVariants as ended
 use Rattle.rm_machine_laws.specs.Holds.{HoldsRest, View}
 use Rattle.rm_site.specs.Opens.{AreValid, Opens, Shows}
-use Rattle.rm_tool_opening.specs.declared.opening.Unopened.{Unopened, TheVariants as unopened}
+use Rattle.rm_tool_opening.specs.declared.opening.Unopened.{Unopened}
+use Rattle.rm_tool_opening.specs.declared.opening.Unopened.TheVariants as unopened
 
 -- the line of status 9
 abbrev pub bad_record : Key → List ℕ

@@ -1,7 +1,8 @@
 -- What the end of a resync tells of its status.
 use Rattle.std.{specs.Prelude.{IfErr}, proofs.Common.{ℕ, zero, suc, arith, [], ◌∷◌, Result, Ok, Err, Contains, lit<, refl, inl, inr}}
 use Rattle.rm_base.specs.Outside.{Rose}
-use Rattle.rm_tool_ends.specs.{Ended.{status_of}, declared.ended.Ended.{Ended, TheVariants as ended}}
+use Rattle.rm_tool_ends.specs.{Ended.{status_of}, declared.ended.Ended.{Ended}}
+use Rattle.rm_tool_ends.specs.declared.ended.Ended.TheVariants as ended
 use Rattle.rm_tool_resync.specs.Resynced.{RoseInResync}
 
 -- the status of words that are refused, or of the sink's fault

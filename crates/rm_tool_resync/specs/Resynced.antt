@@ -5,7 +5,8 @@ use Rattle.rm_catalog.specs.declared.record.Record.{Record}
 use Rattle.rm_control.specs.{Control.{OneRose}, Follows.{AreEqual}}
 use Rattle.rm_lang_words.specs.Resync.{resync_said}
 use Rattle.rm_report.specs.{Reply.{said}, Text.{reply_text}, declared.line.Line.TheVariants.{Resynced}}
-use Rattle.rm_tool_ends.specs.{Writing.{WritesFront}, declared.ended.Ended.{Ended, TheVariants as ended}}
+use Rattle.rm_tool_ends.specs.{Writing.{WritesFront}, declared.ended.Ended.{Ended}}
+use Rattle.rm_tool_ends.specs.declared.ended.Ended.TheVariants as ended
 
 -- the words are those of a resync
 abbrev pub accepts : List (List ℕ) → Bool

@@ -1,13 +1,16 @@
 -- How a task ends, of how the calls below it did.
 use Rattle.std.proofs.Common.{◌≡◌, ◌⊎◌, inl, inr, ℕ, List, Option, Some, None, ap, arith, refl, subst}
 use Rattle.rm_base.{specs.{Outside.{Appends, Rose}, declared.refusal.Refusal.{Refusal}}, proofs.Streams.{rose-within}}
-use Rattle.rm_commit.specs.declared.commit.Stop.{Stop, TheVariants as stop}
+use Rattle.rm_commit.specs.declared.commit.Stop.{Stop}
+use Rattle.rm_commit.specs.declared.commit.Stop.TheVariants as stop
 use Rattle.rm_lang_words.specs.declared.standby.StandbyTask.{StandbyTask}
 use Rattle.rm_piece.specs.declared.set.Set.{Set}
 use Rattle.rm_report.specs.declared.line.Line.{Line}
-use Rattle.rm_tool_opening.specs.{Opening.{WritesUnopened, of_unopened}, declared.opening.Unopened.{Unopened, TheVariants as unopened}}
+use Rattle.rm_tool_opening.specs.{Opening.{WritesUnopened, of_unopened}, declared.opening.Unopened.{Unopened}}
+use Rattle.rm_tool_opening.specs.declared.opening.Unopened.TheVariants as unopened
 use Rattle.rm_tool_ends.specs.{Causes.{of_stop}, Ended.{Counts, NoneFalls, RoseFor}, Writing.{WritesFront, WritesRefusal}}
-use Rattle.rm_tool_ends.specs.declared.ended.Ended.{Ended, TheVariants as ended}
+use Rattle.rm_tool_ends.specs.declared.ended.Ended.{Ended}
+use Rattle.rm_tool_ends.specs.declared.ended.Ended.TheVariants as ended
 use Rattle.rm_tool_standby.specs.{Asked.{Sides}, Done.{Comes, text_of}}
 use Rattle.rm_tool_standby.specs.Ended.{Finishes, Leaves, Takes, before_changes, in_bad_record, in_changes, in_lines, in_refusal}
 use Rattle.rm_tool_standby.specs.{Kept.{Stops}, Prepared.{IsFit, IsReady, StopsAt, changes}, Refused.{Refuses}}

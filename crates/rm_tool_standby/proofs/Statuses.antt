@@ -5,8 +5,8 @@ use Rattle.rm_base.specs.Outside.{Rose}
 use Rattle.rm_catalog.specs.declared.record.Record.{Record}
 use Rattle.rm_lang_words.specs.{Standby.{StandbySaid}, declared.standby.StandbyTask.{StandbyTask}}
 use Rattle.rm_tool_opening.{specs.Opens.{AreValid}, proofs.Source.{none-bad, told-valid}}
-use Rattle.rm_tool_ends.specs.{Ended.{Counts, RoseFor, status_of}, declared.ended.Ended.{Ended, TheVariants as ended}}
-use Rattle.rm_tool_ends.proofs.Statuses.{ended-at, of_status}
+use Rattle.rm_tool_ends.{specs.{Ended.{Counts, RoseFor, status_of}, declared.ended.Ended.{Ended}}, proofs.Statuses.{ended-at, of_status}}
+use Rattle.rm_tool_ends.specs.declared.ended.Ended.TheVariants as ended
 use Rattle.rm_tool_standby.specs.{Asked.{Sides}, Ended.{Finishes, Leaves}}
 
 module _ {A : Type 0} (task : StandbyTask) (a b : Sides) (before now : Option (List ℕ)) (rs : List Record) (kept : a.records ≡ Some rs) where

@@ -5,7 +5,8 @@ use Rattle.rm_lang_words.specs.declared.standby.StandbyTask.{StandbyTask}
 use Rattle.rm_piece.specs.declared.set.Set.{Set}
 use Rattle.rm_report.specs.declared.line.Line.{Line}
 use Rattle.rm_tool_opening.specs.Opening.{BeginsBadRecord, TellsValid, WritesBadRecord}
-use Rattle.rm_tool_ends.specs.{Writing.{WritesFront, refusal_line}, declared.ended.Ended.{Ended, TheVariants as ended}}
+use Rattle.rm_tool_ends.specs.{Writing.{WritesFront, refusal_line}, declared.ended.Ended.{Ended}}
+use Rattle.rm_tool_ends.specs.declared.ended.Ended.TheVariants as ended
 use Rattle.rm_tool_standby.specs.{Asked.{Sides}, Done.{Comes, text_of}, Kept.{Replaces, Stops}, Refused.{Refuses}}
 
 -- a new standby takes the place of that of before; without a new one nothing changes

@@ -9,7 +9,8 @@ use Rattle.rm_evidence.specs.{Available.{IsBad, IsSkipped, IsSkippedAmong}, Data
 use Rattle.rm_evidence.{specs.Names.{log_name, object_id, piece_name, set_name}, proofs.Found.{at-is}}
 use Rattle.rm_evidence.proofs.{Records.{IsBadRecord, bad-by, bad-to, only, skipped-single}, Runs.{apart}}
 use Rattle.rm_verify.specs.{Classes.{is_of, object_in}, Crosscheck.{IsChecked, checked, stands_in, status_after}}
-use Rattle.rm_verify.{specs.declared.object.Expected.{Expected}, proofs.Checked as checks}
+use Rattle.rm_verify.specs.declared.object.Expected.{Expected}
+use Rattle.rm_verify.proofs.Checked as checks
 
 module _ (rs : List Record) (catalog : IsCatalog rs) where
   -- records at one place are one

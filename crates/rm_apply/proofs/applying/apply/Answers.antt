@@ -2,7 +2,8 @@ use Rattle.std.proofs.Common.{◌≡◌, ◌∙◌, List, ap, map, subst, sym}
 use Rattle.rm_base.specs.declared.block.Row.{Row}
 use Rattle.rm_blocks.specs.File.{File, IsInOrder}
 use Rattle.rm_channel.specs.Applied.{row_of}
-use Rattle.rm_apply.proofs.{Parts.{parts-ascend, taken-on}, applying.apply.Goals as goal}
+use Rattle.rm_apply.proofs.Parts.{parts-ascend, taken-on}
+use Rattle.rm_apply.proofs.applying.apply.Goals as goal
 
 pub apply_in_order-requires-clause-order : goal.apply_in_order-requires-clause-order
 apply_in_order-requires-clause-order g c κs lives = parts-ascend c.args.plan.parts c.as_slice.result.now c.requires.order c.as_slice.ensures

@@ -1,7 +1,8 @@
 use Rattle.std.{specs.Vec.Iter.{into_iter_items}, proofs.Common.{◌≡◌, ◌∙◌, ◌∷◌, ◌++◌, [], List, length, map, sym, ap, append_assoc, arith}}
 use Rattle.std.proofs.lemmas.List.Elements.{All-rest}
 use Rattle.rm_blocks.specs.File.{File}
-use Rattle.rm_apply.{specs.{Applying.{IsReady, applied}, declared.plans.Plan.{Plan}}, proofs.applying.apply_all.Goals as goal}
+use Rattle.rm_apply.specs.{Applying.{IsReady, applied}, declared.plans.Plan.{Plan}}
+use Rattle.rm_apply.proofs.applying.apply_all.Goals as goal
 
 pub loop-plan-preserved : goal.loop-plan-preserved
 loop-plan-preserved g c =

@@ -1,6 +1,7 @@
 use Rattle.std.specs.Vec.{vec_capacity, vec_len, Iter.{into_iter_items, into_iter_len}}
 use Rattle.std.proofs.Common.{◌≡◌, ◌+◌, ◌≤◌, ◌++◌, All, length, map}
-use Rattle.rm_apply.{specs.Applying.{IsReady, applied}, proofs.applying.apply_all.Given as goal}
+use Rattle.rm_apply.specs.Applying.{IsReady, applied}
+use Rattle.rm_apply.proofs.applying.apply_all.Given as goal
 
 abbrev pub invariant-loop-plan : goal.invariant-loop-plan
 invariant-loop-plan g l = record {

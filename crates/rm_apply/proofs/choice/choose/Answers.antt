@@ -4,8 +4,8 @@ use Rattle.std.proofs.lemmas.Option.{slice_get_read}
 use Rattle.rm_base.{specs.Choice.{IsChoice}, proofs.{Choices.{choice_passed, choice_only, choice_taken, choice_stays}, Lists.{take_more}}}
 use Rattle.rm_piece.specs.declared.piece.Piece.{Piece}
 use Rattle.rm_apply.{specs.{Restore.{ComesFirst, IsBackupFor, MayRestore}, Taking.{base_at}}, proofs.Orders.{itself, other_way, through}}
-use Rattle.rm_apply.proofs.choice.choose.Goals as goal
 use Rattle.rm_apply.proofs.choice.choose.Goals.{then-may_restore+in-Some, then-may_restore+in_default-2, then-may_restore+in_default, else-may_restore}
+use Rattle.rm_apply.proofs.choice.choose.Goals as goal
 
 pub loop-place-preserved : goal.loop-place-preserved
 loop-place-preserved c =

@@ -1,6 +1,7 @@
 use Rattle.std.{specs.Prelude.{IfOk}, proofs.Common.{subst, sym}}
 use Rattle.rm_evidence.specs.{Place.{FitsPlace}, declared.evidence.InPlace.{InPlace}}
-use Rattle.rm_apply.{specs.Preview.{Previews}, proofs.given.preview.Goals as goal}
+use Rattle.rm_apply.specs.Preview.{Previews}
+use Rattle.rm_apply.proofs.given.preview.Goals as goal
 
 pub preview_from-requires-clause-place : goal.preview_from-requires-clause-place
 preview_from-requires-clause-place g c κs within = subst (λ (p : InPlace). FitsPlace c.args.catalog.now p) (sym c.in_ok-copy.ensures) c.requires.place

@@ -1,6 +1,7 @@
 use Rattle.std.{specs.Prelude.{IfErr, IfOk}, proofs.Common.{subst, sym}}
 use Rattle.rm_evidence.specs.{Place.{FitsPlace}, declared.evidence.InPlace.{InPlace}}
-use Rattle.rm_apply.{specs.Recover.{FindsGap, IfGap, TellsAll}, proofs.given.recover.Goals as goal}
+use Rattle.rm_apply.specs.Recover.{FindsGap, IfGap, TellsAll}
+use Rattle.rm_apply.proofs.given.recover.Goals as goal
 
 pub recover_from-requires-clause-place : goal.recover_from-requires-clause-place
 recover_from-requires-clause-place g c κs within = subst (λ (p : InPlace). FitsPlace c.args.catalog.now p) (sym c.in_ok-copy.ensures) c.requires.place

@@ -1,6 +1,7 @@
 use Rattle.std.{specs.Prelude.{IfOk}, proofs.Common.{subst, sym}}
 use Rattle.rm_evidence.specs.{Place.{FitsPlace}, declared.evidence.InPlace.{InPlace}}
-use Rattle.rm_apply.{specs.Restore.{Restores}, proofs.given.restore.Goals as goal}
+use Rattle.rm_apply.specs.Restore.{Restores}
+use Rattle.rm_apply.proofs.given.restore.Goals as goal
 
 pub restore_from-requires-clause-place : goal.restore_from-requires-clause-place
 restore_from-requires-clause-place g c κs within = subst (λ (p : InPlace). FitsPlace c.args.catalog.now p) (sym c.in_ok-copy.ensures) c.requires.place

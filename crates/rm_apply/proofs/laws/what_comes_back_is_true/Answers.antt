@@ -2,7 +2,8 @@ use Rattle.std.proofs.lemmas.List.Elements.{All-contains}
 use Rattle.rm_base.proofs.Lists.{map_to}
 use Rattle.rm_blocks.specs.File.{File}
 use Rattle.rm_evidence.specs.{Known.{known_of}, Database.{world_of}}
-use Rattle.rm_apply.{specs.Told.{IsTold}, proofs.{States.{rows-are-states}, laws.what_comes_back_is_true.Goals as goal}}
+use Rattle.rm_apply.{specs.Told.{IsTold}, proofs.States.{rows-are-states}}
+use Rattle.rm_apply.proofs.laws.what_comes_back_is_true.Goals as goal
 
 pub returns : goal.returns
 returns c = λ held rs place i s r tells h x history agrees has.

@@ -3,7 +3,8 @@ use Rattle.std.proofs.Common.{◌≡◌, ◌∙◌, ◌++◌, ◌∷◌, List, a
 use Rattle.rm_evidence.specs.{Known.{known_of}, Database.{world_of}}
 use Rattle.rm_plan.{specs.declared.plan.PlanFault.{PlanFault}, proofs.Faults.{handed_on}}
 use Rattle.rm_apply.{specs.{Applying.{AreTried}, Told.{IsFaultOfAll}, declared.plans.Plan.{Plan}}, proofs.Numbers.{number}}
-use Rattle.rm_apply.proofs.{Planning.{AreLeft, fault-left, next-left, none-left, of_plan}, plans.add_plans.Goals as goal}
+use Rattle.rm_apply.proofs.Planning.{AreLeft, fault-left, next-left, none-left, of_plan}
+use Rattle.rm_apply.proofs.plans.add_plans.Goals as goal
 
 pub loop-plan-init : goal.loop-plan-init
 loop-plan-init g c =

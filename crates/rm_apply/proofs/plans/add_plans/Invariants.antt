@@ -1,6 +1,7 @@
 use Rattle.std.{specs.Vec.Iter.{into_iter_items, into_iter_len}, proofs.Common.{◌≡◌, ◌++◌, length, map}}
 use Rattle.rm_evidence.specs.{Known.{known_of}, Database.{world_of}}
-use Rattle.rm_apply.proofs.{Planning.{AreLeft}, plans.add_plans.Given as goal}
+use Rattle.rm_apply.proofs.Planning.{AreLeft}
+use Rattle.rm_apply.proofs.plans.add_plans.Given as goal
 
 abbrev pub invariant-loop-plan : goal.invariant-loop-plan
 invariant-loop-plan g l = record {

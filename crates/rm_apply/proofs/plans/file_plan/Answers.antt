@@ -1,6 +1,7 @@
 use Rattle.std.proofs.Common.{◌∙◌}
 use Rattle.rm_evidence.specs.{Known.{known_of}, Database.{world_of}}
-use Rattle.rm_apply.proofs.{Rows.{rows-in-order}, plans.file_plan.Goals as goal}
+use Rattle.rm_apply.proofs.Rows.{rows-in-order}
+use Rattle.rm_apply.proofs.plans.file_plan.Goals as goal
 
 pub returns-clause-planned : goal.returns-clause-planned
 returns-clause-planned c =

@@ -1,6 +1,7 @@
 use Rattle.std.proofs.{Common.{ap, subst}, lemmas.Option.{get_or_from_slice_get}}
 use Rattle.rm_evidence.specs.{Known.{known_of}, Database.{world_of}}
-use Rattle.rm_apply.{specs.Applying.{IsTried}, proofs.{Numbers.{no_file, number}, plans.plan_at.Goals as goal}}
+use Rattle.rm_apply.{specs.Applying.{IsTried}, proofs.Numbers.{no_file, number}}
+use Rattle.rm_apply.proofs.plans.plan_at.Goals as goal
 
 pub returns : goal.returns
 returns c = λ t is.

@@ -1,7 +1,8 @@
 use Rattle.std.{specs.Slice.Iter.{chunks_rest}, proofs.Common.{◌≡◌, ◌∙◌, List, ap, length, rules, subst}}
 use Rattle.rm_evidence.specs.{Known.{known_of}, Database.{world_of}}
 use Rattle.rm_apply.specs.declared.targets.TargetFile.{TargetFile}
-use Rattle.rm_apply.proofs.{Planning.{IsPartWay, at-end, at-start, part-each, part-first, part-next}, plans.plans.Goals as goal}
+use Rattle.rm_apply.proofs.Planning.{IsPartWay, at-end, at-start, part-each, part-first, part-next}
+use Rattle.rm_apply.proofs.plans.plans.Goals as goal
 
 pub loop-part-init : goal.loop-part-init
 loop-part-init g c =

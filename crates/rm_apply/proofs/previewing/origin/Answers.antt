@@ -1,7 +1,8 @@
 use Rattle.std.proofs.Common.{◌∷◌, ◌∙◌, [], ap, sym, subst}
 use Rattle.rm_evidence.specs.Database.{world_of}
 use Rattle.rm_apply.specs.{Restore.{AreRestored, file_by, origin_by}, Taking.{base_at}, declared.origin.Origin.{Origin}}
-use Rattle.rm_apply.proofs.{Restorations.{one_restored, same_choice}, previewing.origin.Goals as goal}
+use Rattle.rm_apply.proofs.Restorations.{one_restored, same_choice}
+use Rattle.rm_apply.proofs.previewing.origin.Goals as goal
 
 pub returns : goal.returns
 returns c =

@@ -1,6 +1,7 @@
 use Rattle.std.proofs.Common.{◌∷◌, ◌++◌, [], refl}
 use Rattle.rm_evidence.specs.Database.{world_of}
-use Rattle.rm_apply.proofs.{Restorations.{next_restored}, previewing.origins.Goals as goal}
+use Rattle.rm_apply.proofs.Restorations.{next_restored}
+use Rattle.rm_apply.proofs.previewing.origins.Goals as goal
 
 pub loop-target-preserved : goal.loop-target-preserved
 loop-target-preserved c =

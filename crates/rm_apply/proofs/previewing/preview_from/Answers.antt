@@ -1,7 +1,8 @@
 use Rattle.std.proofs.Common.{List, map, refl, subst}
 use Rattle.rm_evidence.specs.{Known.{known_of}, Database.{world_of}}
 use Rattle.rm_apply.{specs.{Preview.{AreOrigins}, declared.targets.TargetFile.{TargetFile}}, proofs.Firsts.{gap_or_none}}
-use Rattle.rm_apply.proofs.{Numbers.{number, unnamed}, previewing.preview_from.Goals as goal}
+use Rattle.rm_apply.proofs.Numbers.{number, unnamed}
+use Rattle.rm_apply.proofs.previewing.preview_from.Goals as goal
 
 pub returns-clause-previews : goal.returns-clause-previews
 returns-clause-previews g c =

@@ -2,7 +2,8 @@ use Rattle.std.proofs.{Common.{◌≡◌, ◌∙◌, List, arith, map, sym, ap, 
 use Rattle.rm_blocks.specs.File.{File}
 use Rattle.rm_evidence.specs.{Known.{known_of}, Database.{world_of}}
 use Rattle.rm_apply.specs.{Applying.{applied}, Told.{AreFilesAt}, declared.plans.Plan.{Plan}}
-use Rattle.rm_apply.proofs.{Numbers.{few-targets, number, unnamed}, Rows.{files-at}, recovering.recover_files.Goals as goal}
+use Rattle.rm_apply.proofs.{Numbers.{few-targets, number, unnamed}, Rows.{files-at}}
+use Rattle.rm_apply.proofs.recovering.recover_files.Goals as goal
 
 pub plans-requires-clause-numbers : goal.plans-requires-clause-numbers
 plans-requires-clause-numbers g c κs within = unnamed (world_of c.args.catalog.now) c.args.i c.args.s c.in_ok-targets.targets c.as_slice.result.now c.as_slice.ensures c.in_ok-targets.ensures.numbers

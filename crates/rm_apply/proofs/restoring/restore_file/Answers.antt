@@ -2,7 +2,8 @@ use Rattle.std.proofs.Common.{◌∷◌, ◌∙◌, [], ap, refl, sym, subst}
 use Rattle.rm_blocks.specs.File.{File}
 use Rattle.rm_evidence.specs.Database.{world_of}
 use Rattle.rm_apply.specs.{Restore.{AreRestored, file_by, origin_by}, Taking.{base_at}, declared.origin.Origin.{Origin}}
-use Rattle.rm_apply.proofs.{Restorations.{created_below, created_with, one_restored, same_choice}, restoring.restore_file.Goals as goal}
+use Rattle.rm_apply.proofs.Restorations.{created_below, created_with, one_restored, same_choice}
+use Rattle.rm_apply.proofs.restoring.restore_file.Goals as goal
 
 pub file_by-requires-clause-creation : goal.file_by-requires-clause-creation
 file_by-requires-clause-creation c = created_below c.args.catalog.now c.args.target.number c.args.target.datafile c.records.ensures.catalog c.requires.target.0

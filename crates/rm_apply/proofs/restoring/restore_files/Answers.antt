@@ -1,6 +1,7 @@
 use Rattle.std.proofs.Common.{◌<◌, ◌∷◌, [], arith, get_or}
 use Rattle.rm_evidence.specs.Database.{world_of}
-use Rattle.rm_apply.proofs.{Numbers.{no_file}, Restorations.{next_restored}, restoring.restore_files.Goals as goal}
+use Rattle.rm_apply.proofs.{Numbers.{no_file}, Restorations.{next_restored}}
+use Rattle.rm_apply.proofs.restoring.restore_files.Goals as goal
 
 pub restore_file-requires-clause-target : goal.restore_file-requires-clause-target
 restore_file-requires-clause-target c = c.requires.each c.loop-target.target-index no_file c.loop-target-test.true

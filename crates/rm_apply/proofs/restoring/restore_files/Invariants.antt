@@ -1,7 +1,8 @@
 use Rattle.std.proofs.Common.{◌≤◌, ◌<◌, ℕ, get_or, length, map, take}
 use Rattle.rm_catalog.specs.Trees.{nodes}
 use Rattle.rm_evidence.specs.Database.{world_of}
-use Rattle.rm_apply.{specs.{Restore.{AreRestored}, Taking.{Stays}}, proofs.{Numbers.{no_file}, restoring.restore_files.Given as goal}}
+use Rattle.rm_apply.{specs.{Restore.{AreRestored}, Taking.{Stays}}, proofs.Numbers.{no_file}}
+use Rattle.rm_apply.proofs.restoring.restore_files.Given as goal
 
 -- what is chosen for each datafile that is left is what was chosen at first
 abbrev pub invariant-loop-target : goal.invariant-loop-target

@@ -3,7 +3,8 @@ use Rattle.rm_catalog.specs.Trees.{nodes}
 use Rattle.rm_evidence.{specs.Database.{world_of}, proofs.Extending.{unmapped-pairs}}
 use Rattle.rm_piece.specs.declared.piece.Piece.{Piece}
 use Rattle.rm_apply.{specs.{Restore.{AreRestored}, declared.targets.TargetFile.{TargetFile}}, proofs.Numbers.{number}}
-use Rattle.rm_apply.proofs.{Restorations.{chosen_in_order, same_choice}, restoring.restore_from.Goals as goal}
+use Rattle.rm_apply.proofs.Restorations.{chosen_in_order, same_choice}
+use Rattle.rm_apply.proofs.restoring.restore_from.Goals as goal
 
 pub restore_files-requires-clause-order : goal.restore_files-requires-clause-order
 restore_files-requires-clause-order g c = λ f o chosen.

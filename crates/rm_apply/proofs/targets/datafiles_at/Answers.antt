@@ -3,8 +3,9 @@ use Rattle.std.proofs.lemmas.List.{map-append, Elements.{All-push, All-same}}
 use Rattle.rm_evidence.specs.Database.{world_of}
 use Rattle.rm_history.specs.declared.world.Datafile.{Datafile}
 use Rattle.rm_apply.specs.{Files.{AreExactly, IsTargetFile, IsAsked}, declared.targets.TargetFile.{TargetFile}}
-use Rattle.rm_apply.proofs.{Numbers.{Below, all_numbers, number, one_more, one_past, asked_below}, targets.datafiles_at.Goals as goal}
+use Rattle.rm_apply.proofs.Numbers.{Below, all_numbers, number, one_more, one_past, asked_below}
 use Rattle.rm_apply.proofs.targets.datafiles_at.Goals.{in-Some+in_ok-push, in_default}
+use Rattle.rm_apply.proofs.targets.datafiles_at.Goals as goal
 
 pub loop-number-preserved : goal.loop-number-preserved
 loop-number-preserved c =

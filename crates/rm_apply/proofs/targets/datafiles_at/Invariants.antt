@@ -1,6 +1,7 @@
 use Rattle.std.proofs.Common.{All, map}
 use Rattle.rm_evidence.specs.Database.{world_of}
-use Rattle.rm_apply.{specs.Files.{AreExactly, IsTargetFile, IsAsked}, proofs.{Numbers.{Below}, targets.datafiles_at.Given as goal}}
+use Rattle.rm_apply.{specs.Files.{AreExactly, IsTargetFile, IsAsked}, proofs.Numbers.{Below}}
+use Rattle.rm_apply.proofs.targets.datafiles_at.Given as goal
 
 abbrev pub invariant-loop-number : goal.invariant-loop-number
 invariant-loop-number l = record {

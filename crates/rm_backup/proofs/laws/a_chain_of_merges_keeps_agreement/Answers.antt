@@ -1,4 +1,5 @@
-use Rattle.rm_backup.proofs.{Chained.{reached_valid, reached_agrees}, laws.a_chain_of_merges_keeps_agreement.Goals as goal}
+use Rattle.rm_backup.proofs.Chained.{reached_valid, reached_agrees}
+use Rattle.rm_backup.proofs.laws.a_chain_of_merges_keeps_agreement.Goals as goal
 
 pub returns-clause-valid : goal.returns-clause-valid
 returns-clause-valid c = reached_valid

@@ -3,8 +3,9 @@ use Rattle.std.proofs.Common.{◌≡◌, ◌+◌, inl, inr, ℕ, List, Some, tru
 use Rattle.std.proofs.lemmas.Bool.{cases_lt}
 use Rattle.rm_piece.specs.declared.piece.Piece.{Piece}
 use Rattle.rm_base.{specs.Choice.{IsChoice}, proofs.{Choices.{choice_passed, choice_only, choice_taken, choice_stays}, Lists.{take_more}}}
-use Rattle.rm_backup.{specs.Level1s.{MergesFirst, MayBeNext}, proofs.level1s.next_level1.Goals as goal}
+use Rattle.rm_backup.specs.Level1s.{MergesFirst, MayBeNext}
 use Rattle.rm_backup.proofs.level1s.next_level1.Goals.{then-may_be_next+in-Some, then-may_be_next+in_default, in_default-via-in-Some+else-merges_first, in_default-via-in_default, else-may_be_next}
+use Rattle.rm_backup.proofs.level1s.next_level1.Goals as goal
 
 itself : (x : ℕ × Piece) → MergesFirst x x
 itself x = inr (refl, omega arith)

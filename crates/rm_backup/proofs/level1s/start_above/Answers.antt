@@ -1,8 +1,9 @@
 use Rattle.std.proofs.Common.{◌∙◌, ◌++◌, ◌∷◌, [], ℕ, List, Vec, Global, take, take_all, sym, subst, ap}
 use Rattle.rm_base.proofs.Lists.{take_more}
 use Rattle.rm_catalog.specs.declared.record.Record.{Record}
-use Rattle.rm_backup.{specs.Level1s.{StartAbove}, proofs.{Kept.{above_none, above_more, above_passed}, level1s.start_above.Goals as goal}}
+use Rattle.rm_backup.{specs.Level1s.{StartAbove}, proofs.Kept.{above_none, above_more, above_passed}}
 use Rattle.rm_backup.proofs.level1s.start_above.Goals.{in-Some+in_ok-push, in_default}
+use Rattle.rm_backup.proofs.level1s.start_above.Goals as goal
 
 pub loop-row-init : goal.loop-row-init
 loop-row-init c = subst (StartAbove [] c.args.file c.args.tag.now c.args.checkpoint) (sym c.new-found.ensures.items) (above_none c.args.file c.args.tag.now c.args.checkpoint)

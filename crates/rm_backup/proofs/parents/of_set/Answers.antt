@@ -1,6 +1,7 @@
 use Rattle.std.proofs.{Common.{◌≡◌, ◌∙◌, false, true, None, refl, take_all}, lemmas.List.Elements.{All-more, Contains-get_or}}
 use Rattle.rm_catalog.specs.{Keys.{part_piece}, declared.record.SetPart.{SetPart}}
-use Rattle.rm_backup.{specs.Parents.{MayBeParent}, proofs.{Choices.{tells_no_set, tells_set}, parents.of_set.Goals as goal}}
+use Rattle.rm_backup.{specs.Parents.{MayBeParent}, proofs.Choices.{tells_no_set, tells_set}}
+use Rattle.rm_backup.proofs.parents.of_set.Goals as goal
 
 pub returns-then-may_be_parent : goal.returns-then-may_be_parent
 returns-then-may_be_parent c =

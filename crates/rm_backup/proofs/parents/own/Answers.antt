@@ -1,5 +1,6 @@
 use Rattle.std.{specs.Option.{option_copied}, proofs.Common.{rules}}
-use Rattle.rm_backup.{specs.Parents.{MayBeParent}, proofs.{Choices.{tells_one}, parents.own.Goals as goal}}
+use Rattle.rm_backup.{specs.Parents.{MayBeParent}, proofs.Choices.{tells_one}}
+use Rattle.rm_backup.proofs.parents.own.Goals as goal
 
 pub returns-then-is_on_path : goal.returns-then-is_on_path
 returns-then-is_on_path c =

@@ -1,5 +1,6 @@
 use Rattle.std.proofs.Common.{sym, subst}
-use Rattle.rm_backup.{specs.Level1s.{IsReached, start, next}, proofs.{Chained.{reached_risen}, renewing.merge_all.Goals as goal}}
+use Rattle.rm_backup.{specs.Level1s.{IsReached, start, next}, proofs.Chained.{reached_risen}}
+use Rattle.rm_backup.proofs.renewing.merge_all.Goals as goal
 
 pub loop-level1-init : goal.loop-level1-init
 loop-level1-init c = record { reached = start; valid = c.requires.copy }

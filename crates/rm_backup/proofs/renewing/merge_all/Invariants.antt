@@ -1,6 +1,7 @@
 use Rattle.std.proofs.Common.{◌-◌}
 use Rattle.rm_piece.specs.Valid.{IsPiece}
-use Rattle.rm_backup.{specs.Level1s.{IsReached}, proofs.renewing.merge_all.Given as goal}
+use Rattle.rm_backup.specs.Level1s.{IsReached}
+use Rattle.rm_backup.proofs.renewing.merge_all.Given as goal
 
 abbrev pub invariant-loop-level1 : goal.invariant-loop-level1
 invariant-loop-level1 l = record {

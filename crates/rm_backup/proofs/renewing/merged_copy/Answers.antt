@@ -2,7 +2,8 @@ use Rattle.std.proofs.{Common.{◌∙◌, ℕ, List, Contains, ap, sym, subst}, 
 use Rattle.rm_catalog.specs.Trees.{nodes}
 use Rattle.rm_evidence.specs.Known.{FitsPiece}
 use Rattle.rm_piece.specs.{Valid.{IsPiece}, declared.piece.Piece.{Piece}}
-use Rattle.rm_backup.{specs.Renewed.{copy_at}, proofs.{AtHand.{copy_fits}, renewing.merged_copy.Goals as goal}}
+use Rattle.rm_backup.{specs.Renewed.{copy_at}, proofs.AtHand.{copy_fits}}
+use Rattle.rm_backup.proofs.renewing.merged_copy.Goals as goal
 
 pub take_over-merged-requires-clause-copy : goal.take_over-merged-requires-clause-copy
 take_over-merged-requires-clause-copy c =

@@ -1,7 +1,8 @@
 use Rattle.std.proofs.{Common.{◌≡◌, ◌+◌, ◌++◌, ◌∷◌, [], ◌∙◌, take, ap, sym, arith, get_or}, lemmas.Bool.{eq-eqb, ne_eqb}}
 use Rattle.std.proofs.lemmas.List.{take_more}
-use Rattle.rm_base.{specs.Content.{trimmed}, proofs.{Contents.{trimmed-zero, trimmed-other}, block.trimmed_len.Goals as goal}}
+use Rattle.rm_base.{specs.Content.{trimmed}, proofs.Contents.{trimmed-zero, trimmed-other}}
 use Rattle.rm_base.proofs.block.trimmed_len.Goals.{then-byte-ne0, else-byte-ne0}
+use Rattle.rm_base.proofs.block.trimmed_len.Goals as goal
 
 pub loop-i-preserved : goal.loop-i-preserved
 loop-i-preserved c =

@@ -1,5 +1,6 @@
 use Rattle.std.proofs.Common.{rules}
-use Rattle.rm_bench.proofs.{Opened.{sound-as}, live.database.Goals as goal}
+use Rattle.rm_bench.proofs.Opened.{sound-as}
+use Rattle.rm_bench.proofs.live.database.Goals as goal
 
 pub returns-clause-sound : goal.returns-clause-sound
 returns-clause-sound c = sound-as _ c.args.blocks (search rules)

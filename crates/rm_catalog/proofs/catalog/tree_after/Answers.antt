@@ -3,7 +3,8 @@ use Rattle.std.proofs.lemmas.List.Sorted.{IsNonDecreasingBy-take}
 use Rattle.rm_history.specs.declared.tree.Incarnation.{Incarnation}
 use Rattle.rm_catalog.specs.{Keys.{place_of, InOrder}, Edits.{below, place_of_edit, after_edits}, Trees.{nodes, as_tree, BranchInTurn}}
 use Rattle.rm_catalog.{specs.declared.record.{Edit.{Edit}, Record.{Record}}, proofs.{Filters.{below_after}, Found.{AllBelow, AllFrom}}}
-use Rattle.rm_catalog.proofs.{Passing.{take_below}, Trees.{below_in_turn, nodes_below}, catalog.tree_after.Goals as goal}
+use Rattle.rm_catalog.proofs.{Passing.{take_below}, Trees.{below_in_turn, nodes_below}}
+use Rattle.rm_catalog.proofs.catalog.tree_after.Goals as goal
 
 -- the front of the records after the edits of the front is the front of the records after all
 front_is : (rs front made : List Record) (es chosen : List Edit) (p q n : ℕ) → p ≡ q → AllBelow rs p n → AllFrom rs p n → front ≡ take n rs → chosen ≡ filter (λ (e : Edit). ltb (place_of_edit e) p) es

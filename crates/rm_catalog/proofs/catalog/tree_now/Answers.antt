@@ -1,7 +1,8 @@
 use Rattle.std.{specs.Prelude.{IfOk}, proofs.Common.{◌≡◌, ◌∙◌, ℕ, List, ap, sym, subst}}
 use Rattle.rm_history.specs.declared.tree.Incarnation.{Incarnation}
 use Rattle.rm_catalog.specs.{Edits.{below}, Trees.{nodes, as_tree, BranchInTurn}, declared.record.Record.{Record}}
-use Rattle.rm_catalog.proofs.{Passing.{take_below}, Trees.{below_in_turn, nodes_below}, catalog.tree_now.Goals as goal}
+use Rattle.rm_catalog.proofs.{Passing.{take_below}, Trees.{below_in_turn, nodes_below}}
+use Rattle.rm_catalog.proofs.catalog.tree_now.Goals as goal
 
 pub build-requires : goal.build-requires
 build-requires c =

@@ -1,5 +1,6 @@
 use Rattle.std.proofs.Common.{arith, reverse}
-use Rattle.rm_catalog.proofs.{Passing.{all_behind, ready_after, made_after}, edits.make_below.Goals as goal}
+use Rattle.rm_catalog.proofs.Passing.{all_behind, ready_after, made_after}
+use Rattle.rm_catalog.proofs.edits.make_below.Goals as goal
 
 pub make_at_end-requires-clause-last : goal.make_at_end-requires-clause-last
 make_at_end-requires-clause-last c =

@@ -1,6 +1,7 @@
 use Rattle.std.proofs.{Common.{◌≡◌, ◌∙◌, [], ◌∷◌, ◌++◌, List, ap, sym, arith, reverse}, lemmas.List.{reverse-append}}
 use Rattle.rm_catalog.specs.{Edits.{after_edits}, declared.record.{Record.{Record}, Edit.{Edit}}}
-use Rattle.rm_catalog.proofs.{Passing.{all_behind, ready_after}, edits.make_rest.Goals as goal}
+use Rattle.rm_catalog.proofs.Passing.{all_behind, ready_after}
+use Rattle.rm_catalog.proofs.edits.make_rest.Goals as goal
 
 -- the last one of a list comes first where it is reversed
 turned : (es fs : List Edit) (e : Edit) → es ≡ fs ++ e ∷ [] → reverse es ≡ e ∷ reverse fs

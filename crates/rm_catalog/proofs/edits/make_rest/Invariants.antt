@@ -1,5 +1,6 @@
 use Rattle.std.{specs.Vec.{vec_len, vec_capacity}, proofs.Common.{◌≡◌, ◌+◌, ◌≤◌, reverse}}
-use Rattle.rm_catalog.{specs.{Edits.{after_edits}, Passes.{IsReady}}, proofs.edits.make_rest.Given as goal}
+use Rattle.rm_catalog.specs.{Edits.{after_edits}, Passes.{IsReady}}
+use Rattle.rm_catalog.proofs.edits.make_rest.Given as goal
 
 abbrev pub invariant-edits : goal.invariant-edits
 invariant-edits l = record {

@@ -1,6 +1,7 @@
 use Rattle.std.{specs.Vec.Iter.{into_iter_items}, proofs.Common.{◌≡◌, ◌∙◌, ℕ, ◌≤◌, ◌∷◌, length, ap, sym, subst, arith, reverse, All}}
 use Rattle.rm_catalog.specs.{Edits.{place_of_edit}, Passes.{HasMade}, declared.record.Edit.{Edit}}
-use Rattle.rm_catalog.proofs.{Passing.{stands_more, stands_first, stands_last}, edits.merge.Goals as goal}
+use Rattle.rm_catalog.proofs.Passing.{stands_more, stands_first, stands_last}
+use Rattle.rm_catalog.proofs.edits.merge.Goals as goal
 
 pub make_below-requires-clause-ready : goal.make_below-requires-clause-ready
 make_below-requires-clause-ready c = c.loop-row.invariant.stands.ready

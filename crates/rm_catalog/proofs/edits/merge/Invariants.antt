@@ -1,5 +1,6 @@
 use Rattle.std.{specs.Vec.{vec_len, vec_capacity, Iter.{into_iter_items, into_iter_len}}, proofs.Common.{◌≡◌, ◌+◌, ◌≤◌, length, reverse}}
-use Rattle.rm_catalog.{specs.Edits.{after_edits}, proofs.{Passing.{Stands}, edits.merge.Given as goal}}
+use Rattle.rm_catalog.{specs.Edits.{after_edits}, proofs.Passing.{Stands}}
+use Rattle.rm_catalog.proofs.edits.merge.Given as goal
 
 abbrev pub invariant-loop-row : goal.invariant-loop-row
 invariant-loop-row l = record {

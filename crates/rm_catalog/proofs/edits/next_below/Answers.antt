@@ -1,6 +1,7 @@
 use Rattle.std.proofs.Common.{◌≡◌, ◌∙◌, ℕ, ◌<◌, ◌≤◌, ◌-◌, length, get_or, List, ap, sym, subst, arith, reverse}
 use Rattle.std.proofs.lemmas.List.{get_or-reverse, get_or_default}
-use Rattle.rm_catalog.{specs.{Edits.{place_of_edit}, declared.record.Edit.{Edit}}, proofs.edits.next_below.Goals as goal}
+use Rattle.rm_catalog.specs.{Edits.{place_of_edit}, declared.record.Edit.{Edit}}
+use Rattle.rm_catalog.proofs.edits.next_below.Goals as goal
 
 pub returns-then-place-clause-above : goal.returns-then-place-clause-above
 returns-then-place-clause-above c k d lt =

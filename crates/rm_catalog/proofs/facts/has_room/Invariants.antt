@@ -1,5 +1,6 @@
 use Rattle.std.{specs.Prelude.{sum_by}, proofs.Common.{◌≡◌, ◌≤◌, take}}
-use Rattle.rm_catalog.{specs.Facts.{blocks_to}, proofs.facts.has_room.Given as goal}
+use Rattle.rm_catalog.specs.Facts.{blocks_to}
+use Rattle.rm_catalog.proofs.facts.has_room.Given as goal
 
 abbrev pub invariant-loop-r : goal.invariant-loop-r
 invariant-loop-r l = record {

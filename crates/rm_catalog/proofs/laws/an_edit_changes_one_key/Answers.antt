@@ -1,4 +1,5 @@
-use Rattle.rm_catalog.proofs.{Passing.{order_after_all}, Lookups.{at_after}, laws.an_edit_changes_one_key.Goals as goal}
+use Rattle.rm_catalog.proofs.{Passing.{order_after_all}, Lookups.{at_after}}
+use Rattle.rm_catalog.proofs.laws.an_edit_changes_one_key.Goals as goal
 
 pub returns-clause-found : goal.returns-clause-found
 returns-clause-found c e rs p = at_after e rs p

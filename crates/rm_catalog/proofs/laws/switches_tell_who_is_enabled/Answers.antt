@@ -1,5 +1,6 @@
 use Rattle.rm_catalog.{specs.{Switches.{switches}, Trees.{nodes}}, proofs.{SwitchNumbers.{switches-found}, Switching.{was-told}}}
-use Rattle.rm_catalog.proofs.{Trees.{path_is}, laws.switches_tell_who_is_enabled.Goals as goal}
+use Rattle.rm_catalog.proofs.Trees.{path_is}
+use Rattle.rm_catalog.proofs.laws.switches_tell_who_is_enabled.Goals as goal
 
 pub returns : goal.returns
 returns c rs x n t catalog small few number there =

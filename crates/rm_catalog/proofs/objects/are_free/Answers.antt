@@ -1,5 +1,6 @@
 use Rattle.std.proofs.{Common.{ℕ, refl, subst, All, List}, lemmas.List.{take_all, Elements.{All-more}}}
-use Rattle.rm_catalog.{specs.Objects.{IsFree}, proofs.objects.are_free.Goals as goal}
+use Rattle.rm_catalog.specs.Objects.{IsFree}
+use Rattle.rm_catalog.proofs.objects.are_free.Goals as goal
 
 pub loop-other-preserved : goal.loop-other-preserved
 loop-other-preserved c =

@@ -1,4 +1,5 @@
-use Rattle.rm_catalog.proofs.{Owners.{stops_none, stops_here, goes_on, ends}, objects.owner_in.Goals as goal}
+use Rattle.rm_catalog.proofs.Owners.{stops_none, stops_here, goes_on, ends}
+use Rattle.rm_catalog.proofs.objects.owner_in.Goals as goal
 
 pub returns-in-None : goal.returns-in-None
 returns-in-None c = stops_none c.args.records.now _ _ _ _ _ _ c.loop-step-test.true c.incarnation.ensures c.in-None.is c.loop-step.invariant

@@ -1,5 +1,6 @@
 use Rattle.std.proofs.{Common.{arith}, lemmas.Bool.{lt-ltb}}
-use Rattle.rm_catalog.proofs.{Counts.{lasting_few}, rules.are_few.Goals as goal}
+use Rattle.rm_catalog.proofs.Counts.{lasting_few}
+use Rattle.rm_catalog.proofs.rules.are_few.Goals as goal
 
 pub returns-then-count_under-lt-MOST_RECORDS : goal.returns-then-count_under-lt-MOST_RECORDS
 returns-then-count_under-lt-MOST_RECORDS c = (

@@ -1,5 +1,6 @@
 use Rattle.std.{specs.Prelude.{IsTrue, count_by}, proofs.Common.{ℕ, ◌<◌, ◌∙◌, subst, sym}}
-use Rattle.rm_catalog.{specs.Rules.{is_lasting, lasts_below}, proofs.rules.is_among_first.Goals as goal}
+use Rattle.rm_catalog.specs.Rules.{is_lasting, lasts_below}
+use Rattle.rm_catalog.proofs.rules.is_among_first.Goals as goal
 
 pub returns-then-is_lasting : goal.returns-then-is_lasting
 returns-then-is_lasting c =

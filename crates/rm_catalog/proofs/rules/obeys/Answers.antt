@@ -1,5 +1,6 @@
 use Rattle.std.{specs.Prelude.{IsTrue}, proofs.Common.{ℕ, subst, sym}}
-use Rattle.rm_catalog.{specs.Rules.{IsOnce}, proofs.rules.obeys.Goals as goal}
+use Rattle.rm_catalog.specs.Rules.{IsOnce}
+use Rattle.rm_catalog.proofs.rules.obeys.Goals as goal
 
 pub returns-then-not-is_once : goal.returns-then-not-is_once
 returns-then-not-is_once c = (

@@ -1,5 +1,6 @@
 use Rattle.std.{specs.Prelude.{count_by}, proofs.Common.{◌≡◌, ◌≤◌, take}}
-use Rattle.rm_catalog.{specs.Saved.{is_part_of}, proofs.saved.is_alone.Given as goal}
+use Rattle.rm_catalog.specs.Saved.{is_part_of}
+use Rattle.rm_catalog.proofs.saved.is_alone.Given as goal
 
 abbrev pub invariant-loop-r : goal.invariant-loop-r
 invariant-loop-r l = record {

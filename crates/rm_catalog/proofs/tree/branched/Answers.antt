@@ -1,7 +1,8 @@
 use Rattle.std.{specs.Option.{option_map_or}, proofs.Common.{◌≡◌, ◌∙◌, ℕ, ◌+◌, ◌-◌, [], ◌∷◌, ◌++◌, length, set, List, Option, ap, arith}}
 use Rattle.std.proofs.lemmas.List.{set_at, length-append}
 use Rattle.rm_history.specs.{Tree.{with_end, with_branch, end_of}, declared.tree.Incarnation.{Incarnation}}
-use Rattle.rm_catalog.proofs.{Trees.{in_last}, tree.branched.Goals as goal}
+use Rattle.rm_catalog.proofs.Trees.{in_last}
+use Rattle.rm_catalog.proofs.tree.branched.Goals as goal
 
 -- the last one of a tree gets its end
 ended : (t : List Incarnation) (p at e n : ℕ) → n ≡ length t + 1 → with_end (with_branch t p at) n e ≡ t ++ record { parent = p; reset = at; end = e } ∷ []

@@ -1,6 +1,7 @@
 use Rattle.std.proofs.Common.{◌≡◌, ◌++◌, ◌∷◌, sym, arith}
 use Rattle.rm_base.specs.Number.{eight}
-use Rattle.rm_catalog_bytes.{specs.Spelling.{ending_front}, proofs.{Told.{ending_told}, ending.take_ending_front.Goals as goal}}
+use Rattle.rm_catalog_bytes.{specs.Spelling.{ending_front}, proofs.Told.{ending_told}}
+use Rattle.rm_catalog_bytes.proofs.ending.take_ending_front.Goals as goal
 
 pub returns-in_default-clause-none : goal.returns-in_default-clause-none
 returns-in_default-clause-none c e n rest fits few same =

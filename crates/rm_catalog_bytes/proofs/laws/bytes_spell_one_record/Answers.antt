@@ -1,4 +1,5 @@
-use Rattle.rm_catalog_bytes.proofs.{Records.{record_same}, laws.bytes_spell_one_record.Goals as goal}
+use Rattle.rm_catalog_bytes.proofs.Records.{record_same}
+use Rattle.rm_catalog_bytes.proofs.laws.bytes_spell_one_record.Goals as goal
 
 pub returns : goal.returns
 returns c = record_same

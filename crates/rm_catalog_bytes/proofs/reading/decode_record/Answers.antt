@@ -1,6 +1,7 @@
 use Rattle.std.proofs.Common.{◌∙◌, sym}
 use Rattle.rm_catalog.specs.declared.record.Record.TheVariants.{Base, Incarnation, Datafile, Log, Mark, Part, Head, Switch}
-use Rattle.rm_catalog_bytes.proofs.{Records.{record_same, key_made}, reading.decode_record.Goals as goal}
+use Rattle.rm_catalog_bytes.proofs.Records.{record_same, key_made}
+use Rattle.rm_catalog_bytes.proofs.reading.decode_record.Goals as goal
 
 pub returns-in-Some-clause-only : goal.returns-in-Some-clause-only
 returns-in-Some-clause-only c r fits key is =

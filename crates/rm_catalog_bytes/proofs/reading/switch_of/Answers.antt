@@ -1,5 +1,6 @@
 use Rattle.std.proofs.Common.{◌∙◌, List, ℕ, length, ap, arith}
-use Rattle.rm_catalog_bytes.proofs.{Told.{length-switch}, reading.switch_of.Goals as goal}
+use Rattle.rm_catalog_bytes.proofs.Told.{length-switch}
+use Rattle.rm_catalog_bytes.proofs.reading.switch_of.Goals as goal
 
 pub returns-then-bytes-ne18-clause-none : goal.returns-then-bytes-ne18-clause-none
 returns-then-bytes-ne18-clause-none c r fits is =

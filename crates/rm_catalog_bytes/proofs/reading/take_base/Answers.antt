@@ -1,6 +1,7 @@
 use Rattle.std.proofs.Common.{◌≡◌, ◌++◌, ◌∷◌, sym, arith}
 use Rattle.rm_base.specs.Number.{four, eight}
-use Rattle.rm_catalog_bytes.{specs.Spelling.{base_bytes}, proofs.{Told.{base_told}, reading.take_base.Goals as goal}}
+use Rattle.rm_catalog_bytes.{specs.Spelling.{base_bytes}, proofs.Told.{base_told}}
+use Rattle.rm_catalog_bytes.proofs.reading.take_base.Goals as goal
 
 pub returns-in_default-clause-none : goal.returns-in_default-clause-none
 returns-in_default-clause-none c r rest fits same =

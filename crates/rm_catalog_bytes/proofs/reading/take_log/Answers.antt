@@ -1,6 +1,7 @@
 use Rattle.std.proofs.Common.{◌≡◌, ◌++◌, ◌∷◌, sym, arith}
 use Rattle.rm_base.specs.Number.{four, eight}
-use Rattle.rm_catalog_bytes.{specs.Spelling.{log_bytes}, proofs.{Told.{log_told}, reading.take_log.Goals as goal}}
+use Rattle.rm_catalog_bytes.{specs.Spelling.{log_bytes}, proofs.Told.{log_told}}
+use Rattle.rm_catalog_bytes.proofs.reading.take_log.Goals as goal
 
 pub returns-in_default-clause-none : goal.returns-in_default-clause-none
 returns-in_default-clause-none c r rest fits same =

@@ -1,5 +1,6 @@
 use Rattle.std.proofs.Common.{◌∙◌, ◌*◌, sym, arith}
-use Rattle.rm_catalog_bytes.proofs.{Fronts.{whole}, SetTold.{next_part, parts_same}, sets.parts_of.Goals as goal}
+use Rattle.rm_catalog_bytes.proofs.{Fronts.{whole}, SetTold.{next_part, parts_same}}
+use Rattle.rm_catalog_bytes.proofs.sets.parts_of.Goals as goal
 
 pub returns-in_default-clause-only : goal.returns-in_default-clause-only
 returns-in_default-clause-only c ps many fits is =

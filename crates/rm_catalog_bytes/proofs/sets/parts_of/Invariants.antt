@@ -1,5 +1,6 @@
 use Rattle.std.{specs.List.{flat_map}, proofs.Common.{◌≡◌, ◌++◌, ◌+◌, ◌*◌, length, All}}
-use Rattle.rm_catalog_bytes.{specs.{Fits.{SetPartFits}, Spelling.{set_part_bytes}}, proofs.sets.parts_of.Given as goal}
+use Rattle.rm_catalog_bytes.specs.{Fits.{SetPartFits}, Spelling.{set_part_bytes}}
+use Rattle.rm_catalog_bytes.proofs.sets.parts_of.Given as goal
 
 abbrev pub invariant-loop : goal.invariant-loop
 invariant-loop l = record {

@@ -1,5 +1,6 @@
 use Rattle.std.proofs.{Common.{arith}, lemmas.{Grind.{common_steps}, List.Elements.{All-more}}}
-use Rattle.rm_catalog_bytes.{specs.Fits.{SetPartFits}, proofs.sets.push_set_parts.Goals as goal}
+use Rattle.rm_catalog_bytes.specs.Fits.{SetPartFits}
+use Rattle.rm_catalog_bytes.proofs.sets.push_set_parts.Goals as goal
 
 pub loop-part-preserved : goal.loop-part-preserved
 loop-part-preserved c = record {

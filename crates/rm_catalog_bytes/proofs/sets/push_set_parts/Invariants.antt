@@ -1,5 +1,6 @@
 use Rattle.std.{specs.List.{flat_map}, proofs.Common.{◌≡◌, ◌++◌, All, take}}
-use Rattle.rm_catalog_bytes.{specs.{Fits.{SetPartFits}, Spelling.{set_part_bytes}}, proofs.sets.push_set_parts.Given as goal}
+use Rattle.rm_catalog_bytes.specs.{Fits.{SetPartFits}, Spelling.{set_part_bytes}}
+use Rattle.rm_catalog_bytes.proofs.sets.push_set_parts.Given as goal
 
 abbrev pub invariant-loop-part : goal.invariant-loop-part
 invariant-loop-part l = record {

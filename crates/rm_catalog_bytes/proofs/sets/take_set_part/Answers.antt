@@ -1,6 +1,7 @@
 use Rattle.std.proofs.Common.{◌≡◌, ◌++◌, ◌∷◌, sym, arith}
 use Rattle.rm_base.specs.Number.{four, eight}
-use Rattle.rm_catalog_bytes.{specs.Spelling.{set_part_bytes}, proofs.{Told.{set_part_told}, sets.take_set_part.Goals as goal}}
+use Rattle.rm_catalog_bytes.{specs.Spelling.{set_part_bytes}, proofs.Told.{set_part_told}}
+use Rattle.rm_catalog_bytes.proofs.sets.take_set_part.Goals as goal
 
 pub returns-in_default-clause-none : goal.returns-in_default-clause-none
 returns-in_default-clause-none c p rest fits same =

@@ -1,5 +1,6 @@
 use Rattle.std.proofs.{Common.{rules}, lemmas.List.Sorted.{answers_always}}
-use Rattle.rm_catalog_typed.proofs.{Splits.{searched}, by_id.seek.Goals as goal}
+use Rattle.rm_catalog_typed.proofs.Splits.{searched}
+use Rattle.rm_catalog_typed.proofs.by_id.seek.Goals as goal
 
 -- the closure gives the id of each
 pub returns : goal.returns

@@ -1,5 +1,6 @@
 use Rattle.std.{specs.Vec.{vec_capacity, vec_len}, proofs.Common.{◌≡◌, ◌+◌, ◌≤◌, ◌++◌, map, take}}
-use Rattle.rm_catalog.specs.declared.record.{Edit.TheVariants.{Put}, Record.TheVariants as kind}
+use Rattle.rm_catalog.specs.declared.record.Edit.TheVariants.{Put}
+use Rattle.rm_catalog.specs.declared.record.Record.TheVariants as kind
 use Rattle.rm_catalog_typed.proofs.edits.put_parts.Given as goal
 
 abbrev pub invariant-loop-part : goal.invariant-loop-part

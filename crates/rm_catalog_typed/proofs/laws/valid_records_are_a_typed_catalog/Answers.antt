@@ -1,4 +1,5 @@
-use Rattle.rm_catalog_typed.proofs.{Loads.{records-are}, Saves.{typed_catalog-is}, laws.valid_records_are_a_typed_catalog.Goals as goal}
+use Rattle.rm_catalog_typed.proofs.{Loads.{records-are}, Saves.{typed_catalog-is}}
+use Rattle.rm_catalog_typed.proofs.laws.valid_records_are_a_typed_catalog.Goals as goal
 
 pub returns-clause-records : goal.returns-clause-records
 returns-clause-records c = records-are

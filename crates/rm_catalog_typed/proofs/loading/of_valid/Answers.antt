@@ -1,7 +1,8 @@
 use Rattle.std.proofs.Common.{◌∙◌, ◌<◌, List, ap, sym, subst, length, slice_get}
 use Rattle.rm_history.specs.declared.tree.Incarnation.{Incarnation}
 use Rattle.rm_catalog_typed.specs.{Kinds.{Told}, TypedCatalog.{TypedCatalog, records_of}}
-use Rattle.rm_catalog_typed.proofs.{Wholes.{base-told, records-kept, rules-hold}, loading.of_valid.Goals as goal}
+use Rattle.rm_catalog_typed.proofs.Wholes.{base-told, records-kept, rules-hold}
+use Rattle.rm_catalog_typed.proofs.loading.of_valid.Goals as goal
 
 pub assembled-requires : goal.assembled-requires
 assembled-requires c = rules-hold c.args.records.items c.args.tree c.in_ok-kinds.kinds c.in-Some.base c.requires.catalog c.requires.tree c.in_ok-kinds.ensures.told c.in_ok-kinds.ensures.small

@@ -1,6 +1,7 @@
 use Rattle.std.proofs.{Common.{◌∙◌, List, [], ◌∷◌, ◌++◌, ap, sym}, lemmas.List.{append_assoc, Elements.{All-push}}}
 use Rattle.rm_catalog.specs.declared.record.Record.{Record}
-use Rattle.rm_catalog_typed.{specs.Kinds.{IsSmall, with_record}, proofs.{Takes.{told-more}, loading.sorted.Goals as goal}}
+use Rattle.rm_catalog_typed.{specs.Kinds.{IsSmall, with_record}, proofs.Takes.{told-more}}
+use Rattle.rm_catalog_typed.proofs.loading.sorted.Goals as goal
 
 pub loop-record-preserved : goal.loop-record-preserved
 loop-record-preserved c =

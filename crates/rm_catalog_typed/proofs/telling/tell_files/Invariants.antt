@@ -1,5 +1,6 @@
 use Rattle.std.proofs.Common.{◌≡◌, ◌+◌, ◌++◌, drop}
-use Rattle.rm_catalog_typed.{specs.Ledger.{datafile_record, numbered}, proofs.telling.tell_files.Given as goal}
+use Rattle.rm_catalog_typed.specs.Ledger.{datafile_record, numbered}
+use Rattle.rm_catalog_typed.proofs.telling.tell_files.Given as goal
 
 abbrev pub invariant-loop-file : goal.invariant-loop-file
 invariant-loop-file l = record {

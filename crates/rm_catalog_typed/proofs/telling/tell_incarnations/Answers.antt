@@ -2,7 +2,8 @@ use Rattle.std.proofs.Common.{◌≡◌, ◌∙◌, ℕ, suc, ◌+◌, ◌-◌, 
 use Rattle.std.proofs.{lemmas.{Bool.{ne_eqb}, List.{append_assoc}, Option.{get_or_from_slice_get, slice_get_within}}, Math.Seq.{drop-cons}}
 use Rattle.rm_catalog.specs.declared.record.Record.{Record}
 use Rattle.rm_history.specs.{Tree.{incarnation}, declared.tree.Incarnation.{Incarnation}}
-use Rattle.rm_catalog_typed.{specs.Ledger.{incarnation_record, numbered}, proofs.telling.tell_incarnations.Goals as goal}
+use Rattle.rm_catalog_typed.specs.Ledger.{incarnation_record, numbered}
+use Rattle.rm_catalog_typed.proofs.telling.tell_incarnations.Goals as goal
 
 -- what is told next
 told-next : (tree : List Incarnation) (k : ℕ) (n : Incarnation) → incarnation tree (k + 1) ≡ Some n → numbered incarnation_record (k + 1) (drop k tree) ≡ incarnation_record (k + 1) n ∷ numbered incarnation_record (k + 1 + 1) (drop (k + 1) tree)

@@ -1,5 +1,6 @@
 use Rattle.std.proofs.Common.{◌≡◌, ◌+◌, ◌++◌, drop}
-use Rattle.rm_catalog_typed.{specs.Ledger.{mark_record, numbered}, proofs.telling.tell_marks.Given as goal}
+use Rattle.rm_catalog_typed.specs.Ledger.{mark_record, numbered}
+use Rattle.rm_catalog_typed.proofs.telling.tell_marks.Given as goal
 
 abbrev pub invariant-loop-mark : goal.invariant-loop-mark
 invariant-loop-mark l = record {

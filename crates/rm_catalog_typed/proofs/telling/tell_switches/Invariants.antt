@@ -1,5 +1,6 @@
 use Rattle.std.proofs.Common.{◌≡◌, ◌+◌, ◌++◌, drop}
-use Rattle.rm_catalog_typed.{specs.Ledger.{switch_record, numbered}, proofs.telling.tell_switches.Given as goal}
+use Rattle.rm_catalog_typed.specs.Ledger.{switch_record, numbered}
+use Rattle.rm_catalog_typed.proofs.telling.tell_switches.Given as goal
 
 abbrev pub invariant-loop-switch : goal.invariant-loop-switch
 invariant-loop-switch l = record {

@@ -1,5 +1,6 @@
 use Rattle.std.proofs.Common.{arith, rules}
-use Rattle.rm_channel.proofs.{Puts.{parts-joined}, applying.+fn-put_apart-join_mut+arg2+fn-put_apart-join_mut+arg3+put_apart.Goals as goal}
+use Rattle.rm_channel.proofs.Puts.{parts-joined}
+use Rattle.rm_channel.proofs.applying.+fn-put_apart-join_mut+arg2+fn-put_apart-join_mut+arg3+put_apart.Goals as goal
 
 pub returns : goal.returns
 returns g t c =

@@ -1,6 +1,7 @@
 use Rattle.std.proofs.{Common.{◌∙◌, ◌∷◌, [], List, ap, sym, get_or, take}, lemmas.List.{take_more}}
 use Rattle.rm_base.specs.declared.block.Part.{Part}
-use Rattle.rm_channel.{specs.Applied.{with_parts}, proofs.{Puts.{no_part, no_parts, parts-then}, applying.put_all.Goals as goal}}
+use Rattle.rm_channel.{specs.Applied.{with_parts}, proofs.Puts.{no_part, no_parts, parts-then}}
+use Rattle.rm_channel.proofs.applying.put_all.Goals as goal
 
 pub loop-part-init : goal.loop-part-init
 loop-part-init c = sym (no_parts c.args.first c.args.rows.now)

@@ -1,7 +1,8 @@
 use Rattle.std.proofs.Common.{◌≡◌, List, ltb, subst, sym, rules}
 use Rattle.std.proofs.lemmas.List.Sorted.{IsNonDecreasingBy-drop, IsNonDecreasingBy-take, IsPartitionPoint-from_clause, IsPartitionedBy-ltb}
 use Rattle.rm_base.specs.declared.block.Part.{Part}
-use Rattle.rm_channel.{specs.Applied.{Ascend, with_parts}, proofs.{Puts.{cut-back, cut-front}, applying.shares.Goals as goal}}
+use Rattle.rm_channel.{specs.Applied.{Ascend, with_parts}, proofs.Puts.{cut-back, cut-front}}
+use Rattle.rm_channel.proofs.applying.shares.Goals as goal
 
 pub returns : goal.returns
 returns c =

@@ -1,5 +1,6 @@
 use Rattle.std.proofs.Common.{rules}
-use Rattle.rm_channel.{specs.Jobs.{lists}, proofs.{Sides.{side-none, side-step}, copying.append_rows.Goals as goal}}
+use Rattle.rm_channel.{specs.Jobs.{lists}, proofs.Sides.{side-none, side-step}}
+use Rattle.rm_channel.proofs.copying.append_rows.Goals as goal
 
 pub loop-k-init : goal.loop-k-init
 loop-k-init c = (search rules, side-none (lists c.args.rows.now.items))

@@ -1,5 +1,6 @@
 use Rattle.std.proofs.Common.{◌≡◌, length, take, vec_len}
-use Rattle.rm_channel.{specs.{Jobs.{lists}, Runs.{side_by_side}}, proofs.copying.append_rows.Given as goal}
+use Rattle.rm_channel.specs.{Jobs.{lists}, Runs.{side_by_side}}
+use Rattle.rm_channel.proofs.copying.append_rows.Given as goal
 
 abbrev pub invariant-loop-k : goal.invariant-loop-k
 invariant-loop-k l =

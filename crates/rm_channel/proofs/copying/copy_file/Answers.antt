@@ -1,6 +1,7 @@
 use Rattle.std.proofs.Common.{List, [], All, subst, sym, rules, arith}
 use Rattle.rm_channel.{specs.{Room.{IsThere}, Runs.{HasRun}, Sections.{sections}, declared.jobs.CopyJob.{CopyJob}}, proofs.Split.{can-all}}
-use Rattle.rm_channel.proofs.{Whole.{one-each, read-alone}, copying.copy_file.Goals as goal}
+use Rattle.rm_channel.proofs.Whole.{one-each, read-alone}
+use Rattle.rm_channel.proofs.copying.copy_file.Goals as goal
 
 pub run-pass-requires : goal.run-pass-requires
 run-pass-requires g c =

@@ -1,6 +1,7 @@
 use Rattle.std.proofs.Common.{◌∙◌, ap, rules}
 use mathlib.Core.List.{map-append}
-use Rattle.rm_channel.{specs.Jobs.{lists}, proofs.copying.gathered.Goals as goal}
+use Rattle.rm_channel.specs.Jobs.{lists}
+use Rattle.rm_channel.proofs.copying.gathered.Goals as goal
 
 pub returns : goal.returns
 returns c =

@@ -1,5 +1,6 @@
 use Rattle.std.proofs.Common.{◌≡◌, ◌≤◌, length, map, take, vec_len, vec_capacity}
-use Rattle.rm_channel.{specs.Jobs.{blocks_in}, proofs.copying.reads_of.Given as goal}
+use Rattle.rm_channel.specs.Jobs.{blocks_in}
+use Rattle.rm_channel.proofs.copying.reads_of.Given as goal
 
 abbrev pub invariant-loop-job : goal.invariant-loop-job
 invariant-loop-job l =

@@ -1,5 +1,6 @@
 use Rattle.std.proofs.Common.{◌≡◌, ◌≤◌, Ok, length, map, take, vec_len, vec_capacity}
-use Rattle.rm_channel.{specs.Jobs.{lists}, proofs.copying.scns_of.Given as goal}
+use Rattle.rm_channel.specs.Jobs.{lists}
+use Rattle.rm_channel.proofs.copying.scns_of.Given as goal
 
 abbrev pub invariant-loop-list : goal.invariant-loop-list
 invariant-loop-list l =

@@ -1,4 +1,5 @@
-use Rattle.rm_channel.proofs.{Cuts.{sections-alike}, cutting.sections_are_alike.Goals as goal}
+use Rattle.rm_channel.proofs.Cuts.{sections-alike}
+use Rattle.rm_channel.proofs.cutting.sections_are_alike.Goals as goal
 
 pub returns : goal.returns
 returns c = sections-alike

@@ -1,7 +1,8 @@
 use Rattle.std.proofs.Common.{Some, None, Option, subst, IsSome}
 use Rattle.rm_base.specs.declared.block.Row.{Row}
 use Rattle.rm_live.specs.{Passes.{Adds}, declared.history.{Answer.TheVariants.{Found}, Call.TheVariants.{Read}}}
-use Rattle.rm_channel.proofs.{Steps.{did-one}, There.{found-there}, pacing.read_block.Goals as goal}
+use Rattle.rm_channel.proofs.{Steps.{did-one}, There.{found-there}}
+use Rattle.rm_channel.proofs.pacing.read_block.Goals as goal
 
 abbrev no_row : Option Row
 no_row = None

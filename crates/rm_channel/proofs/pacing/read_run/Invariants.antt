@@ -1,6 +1,7 @@
 use Rattle.std.proofs.Common.{◌≡◌, ◌+◌, take, vec_len, vec_capacity}
 use Rattle.rm_live.specs.Passes.{IsLater}
-use Rattle.rm_channel.{specs.{Jobs.{found}, Made.{DidMore}}, proofs.pacing.read_run.Given as goal}
+use Rattle.rm_channel.specs.{Jobs.{found}, Made.{DidMore}}
+use Rattle.rm_channel.proofs.pacing.read_run.Given as goal
 
 abbrev pub invariant-loop-block : goal.invariant-loop-block
 invariant-loop-block g l =

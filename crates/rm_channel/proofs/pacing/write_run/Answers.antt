@@ -2,7 +2,8 @@ use Rattle.std.proofs.Common.{◌≡◌, ◌+◌, [], ℕ, List, get_or, length,
 use Rattle.std.proofs.lemmas.List.{take_more, take_all}
 use Rattle.rm_live.specs.declared.history.{Answer.TheVariants.{Wrote}, Call.TheVariants.{Write}}
 use Rattle.rm_channel.{specs.{Jobs.{wrote}, Made.{DidMore}, declared.jobs.WriteJob.{WriteJob}}, proofs.Steps.{did-one, later-then}}
-use Rattle.rm_channel.proofs.{Turns.{more-done}, Writes.{wrote-append}, pacing.write_run.Goals as goal}
+use Rattle.rm_channel.proofs.{Turns.{more-done}, Writes.{wrote-append}}
+use Rattle.rm_channel.proofs.pacing.write_run.Goals as goal
 
 abbrev no_write : WriteJob
 no_write = record { file = 0; block = 0; content = record { 0 = [] } }

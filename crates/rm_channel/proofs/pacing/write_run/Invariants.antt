@@ -1,6 +1,7 @@
 use Rattle.std.proofs.Common.{◌≡◌, ◌+◌, take, vec_len, vec_capacity}
 use Rattle.rm_live.specs.Passes.{IsLater}
-use Rattle.rm_channel.{specs.{Jobs.{wrote}, Made.{DidMore}}, proofs.pacing.write_run.Given as goal}
+use Rattle.rm_channel.specs.{Jobs.{wrote}, Made.{DidMore}}
+use Rattle.rm_channel.proofs.pacing.write_run.Given as goal
 
 abbrev pub invariant-loop-write : goal.invariant-loop-write
 invariant-loop-write g l =

@@ -1,6 +1,7 @@
 use Rattle.std.proofs.Common.{◌≡◌, ◌≤◌, ◌+◌, ◌++◌, List, length, vec_len, vec_capacity}
 use Rattle.rm_live.specs.Passes.{IsLater}
-use Rattle.rm_channel.{specs.{Jobs.{wrote}, Made.{Did}, declared.jobs.WriteJob.{WriteJob}}, proofs.working.make_writes.Given as goal}
+use Rattle.rm_channel.specs.{Jobs.{wrote}, Made.{Did}, declared.jobs.WriteJob.{WriteJob}}
+use Rattle.rm_channel.proofs.working.make_writes.Given as goal
 
 abbrev pub invariant-runs : goal.invariant-runs
 invariant-runs g l =

@@ -1,5 +1,6 @@
 use Rattle.std.proofs.Common.{◌≡◌, ◌≤◌, ◌-◌, [], replicate, vec_len}
-use Rattle.rm_channel.{specs.Jobs.{lists}, proofs.working.no_rows.Given as goal}
+use Rattle.rm_channel.specs.Jobs.{lists}
+use Rattle.rm_channel.proofs.working.no_rows.Given as goal
 
 abbrev pub invariant-jobs : goal.invariant-jobs
 invariant-jobs l = (vec_len l.rows ≤ l.jobs) × (lists l.rows.items ≡ replicate (vec_len l.rows) [])

@@ -2,7 +2,8 @@ use Rattle.std.proofs.Common.{◌≡◌, ◌∙◌, ◌++◌, ℕ, All, IsSome, 
 use Rattle.std.proofs.lemmas.List.Elements.{All-drop, All-take}
 use Rattle.rm_live.specs.{Parts.{row_at}, Passes.{Standing}}
 use Rattle.rm_channel.{specs.{Jobs.{found, reads}, Made.{Did}}, proofs.{Spans.{found-append}, Steps.{worked-none, later-then}}}
-use Rattle.rm_channel.proofs.{Turns.{all-done, did-run, more-length, worked-blocks, worked-err}, working.read_list.Goals as goal}
+use Rattle.rm_channel.proofs.Turns.{all-done, did-run, more-length, worked-blocks, worked-err}
+use Rattle.rm_channel.proofs.working.read_list.Goals as goal
 
 pub returns-in_err-rows-clause-worked : goal.returns-in_err-rows-clause-worked
 returns-in_err-rows-clause-worked g c =

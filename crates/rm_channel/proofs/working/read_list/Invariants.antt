@@ -1,6 +1,7 @@
 use Rattle.std.proofs.Common.{◌≡◌, ◌≤◌, ◌+◌, ◌++◌, ℕ, All, IsSome, List, length, vec_len, vec_capacity}
 use Rattle.rm_live.specs.{Parts.{row_at}, Passes.{IsLater}}
-use Rattle.rm_channel.{specs.{Jobs.{found}, Made.{Did}}, proofs.working.read_list.Given as goal}
+use Rattle.rm_channel.specs.{Jobs.{found}, Made.{Did}}
+use Rattle.rm_channel.proofs.working.read_list.Given as goal
 
 abbrev pub invariant-runs : goal.invariant-runs
 invariant-runs g l =

@@ -1,6 +1,7 @@
 use Rattle.std.proofs.Common.{◌≡◌, ◌≤◌, ◌+◌, length, take, vec_len, vec_capacity}
 use Rattle.rm_live.specs.Passes.{IsLater}
-use Rattle.rm_channel.{specs.{Jobs.{AreRows, found_of, lists}, Made.{Did}, Sections.{sections}}, proofs.working.read_sections.Given as goal}
+use Rattle.rm_channel.specs.{Jobs.{AreRows, found_of, lists}, Made.{Did}, Sections.{sections}}
+use Rattle.rm_channel.proofs.working.read_sections.Given as goal
 
 abbrev pub invariant-loop-job : goal.invariant-loop-job
 invariant-loop-job g l =

@@ -1,6 +1,7 @@
 use Rattle.std.proofs.Common.{◌≡◌, ◌∙◌, ◌∷◌, [], List, sym, ap, arith}
 use Rattle.rm_channel.{specs.declared.jobs.WriteJob.{WriteJob}, proofs.Shares.{only-list, run-first, run-list}}
-use Rattle.rm_channel.proofs.working.work.{Goals as goal, Goals.{then-share, else-share}}
+use Rattle.rm_channel.proofs.working.work.Goals.{then-share, else-share}
+use Rattle.rm_channel.proofs.working.work.Goals as goal
 
 pub returns-clause-run : goal.returns-clause-run
 returns-clause-run g c =

@@ -1,5 +1,6 @@
 use Rattle.std.proofs.Common.{rules}
-use Rattle.rm_channel.{specs.Jobs.{writes}, proofs.{Steps.{worked-none}, Turns.{worked-err}, working.write_list.Goals as goal}}
+use Rattle.rm_channel.{specs.Jobs.{writes}, proofs.{Steps.{worked-none}, Turns.{worked-err}}}
+use Rattle.rm_channel.proofs.working.write_list.Goals as goal
 
 pub returns-in_err-rows-clause-worked : goal.returns-in_err-rows-clause-worked
 returns-in_err-rows-clause-worked g c =

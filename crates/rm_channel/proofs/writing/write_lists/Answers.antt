@@ -1,5 +1,6 @@
 use Rattle.std.proofs.Common.{rules}
-use Rattle.rm_channel.{specs.Jobs.{lists}, proofs.{Written.{can-lists, written}, writing.write_lists.Goals as goal}}
+use Rattle.rm_channel.{specs.Jobs.{lists}, proofs.Written.{can-lists, written}}
+use Rattle.rm_channel.proofs.writing.write_lists.Goals as goal
 
 pub run-pass-requires : goal.run-pass-requires
 run-pass-requires g c =

@@ -3,7 +3,8 @@ use Rattle.rm_base.specs.Store.{Both}
 use Rattle.rm_catalog.specs.{Edits.{after_edits}, declared.record.Edit.{Edit}}
 use Rattle.rm_commit.specs.{Names.{HasPuts, SameBeyondPuts, HasRemoves, SameBeyondRemoves}, Carrying.{PutsFront}}
 use Rattle.rm_commit.{specs.declared.commit.Object.{Object}, proofs.Fronts.{front-of-all}}
-use Rattle.rm_commit.proofs.{Carrying.{on-err, halts-before, halts-after, carries}, commit.carry_out.Goals as goal}
+use Rattle.rm_commit.proofs.Carrying.{on-err, halts-before, halts-after, carries}
+use Rattle.rm_commit.proofs.commit.carry_out.Goals as goal
 
 pub returns-in_err-put_all-clause-stopped : goal.returns-in_err-put_all-clause-stopped
 returns-in_err-put_all-clause-stopped g c =

@@ -1,7 +1,8 @@
 use Rattle.std.proofs.Common.{rules, ℕ, List, subst, Some}
 use Rattle.rm_base.specs.Store.{Both, HasNow, SameBut}
 use Rattle.rm_commit.{specs.Names.{name_of, bytes_of}, proofs.{Carrying.{on-err}, Fronts.{more-puts, stops-at}}}
-use Rattle.rm_commit.proofs.{Named.{next-item, so-far, stopped-at}, commit.put_all.Goals as goal}
+use Rattle.rm_commit.proofs.Named.{next-item, so-far, stopped-at}
+use Rattle.rm_commit.proofs.commit.put_all.Goals as goal
 
 pub returns-in_err-put-clause-others : goal.returns-in_err-put-clause-others
 returns-in_err-put-clause-others g c =

@@ -1,6 +1,7 @@
 use Rattle.std.proofs.Common.{◌≤◌, drop, take}
 use Rattle.rm_base.specs.Store.{Both}
-use Rattle.rm_commit.{specs.Names.{HasPuts, name_of, bytes_of}, proofs.{Named.{Ahead}, commit.put_all.Given as goal}}
+use Rattle.rm_commit.{specs.Names.{HasPuts, name_of, bytes_of}, proofs.Named.{Ahead}}
+use Rattle.rm_commit.proofs.commit.put_all.Given as goal
 
 abbrev pub invariant-loop-object : goal.invariant-loop-object
 invariant-loop-object g l = record {

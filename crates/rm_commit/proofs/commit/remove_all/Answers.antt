@@ -1,6 +1,7 @@
 use Rattle.std.proofs.Common.{rules, ℕ, List, subst, None}
 use Rattle.rm_base.specs.Store.{Both, HasNow, SameBut}
-use Rattle.rm_commit.{specs.Names.{itself, nothing}, proofs.{Named.{next-item, so-far, stopped-at}, commit.remove_all.Goals as goal}}
+use Rattle.rm_commit.{specs.Names.{itself, nothing}, proofs.Named.{next-item, so-far, stopped-at}}
+use Rattle.rm_commit.proofs.commit.remove_all.Goals as goal
 
 pub returns-in_err-remove-clause-others : goal.returns-in_err-remove-clause-others
 returns-in_err-remove-clause-others g c =

@@ -1,6 +1,7 @@
 use Rattle.std.proofs.Common.{◌≤◌, drop}
 use Rattle.rm_base.specs.Store.{Both}
-use Rattle.rm_commit.{specs.Names.{itself, nothing}, proofs.{Named.{Ahead}, commit.remove_all.Given as goal}}
+use Rattle.rm_commit.{specs.Names.{itself, nothing}, proofs.Named.{Ahead}}
+use Rattle.rm_commit.proofs.commit.remove_all.Given as goal
 
 abbrev pub invariant-loop-name : goal.invariant-loop-name
 invariant-loop-name g l = record {

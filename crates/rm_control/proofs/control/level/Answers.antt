@@ -1,7 +1,8 @@
 use Rattle.std.{specs.{Option.{option_map}, Vec.{vec_len}}, proofs.Common.{◌≡◌, ◌∙◌, List, Option, true, ap, rules, sym, subst}}
 use Rattle.rm_catalog.specs.{Edits.{after_edits}, Rules.{IsOrderOf}, declared.record.{Edit.{Edit}, Record.{Record}}}
-use Rattle.rm_control.{specs.Follows.{AreEqual}, proofs.{Following.{counted, leveled, none_by, same_after}, control.level.Goals as goal}}
+use Rattle.rm_control.{specs.Follows.{AreEqual}, proofs.Following.{counted, leveled, none_by, same_after}}
 use Rattle.rm_control.proofs.control.level.Goals.{then-not-is_empty+in_ok-apply, else-not-is_empty}
+use Rattle.rm_control.proofs.control.level.Goals as goal
 
 pub returns-clause-equal : goal.returns-clause-equal
 returns-clause-equal g c =

@@ -1,6 +1,7 @@
 use Rattle.std.proofs.{Common.{◌≡◌, ◌∙◌, ◌∷◌, ◌++◌, [], List, Option, rules, sym, subst}, lemmas.Option.{none-some}}
 use Rattle.rm_catalog.specs.declared.record.Edit.{Edit}
-use Rattle.rm_control.{specs.Steps.{IsStep}, proofs.{Going.{Stands, stands_edit}, differences.edits_between.Goals as goal}}
+use Rattle.rm_control.{specs.Steps.{IsStep}, proofs.Going.{Stands, stands_edit}}
+use Rattle.rm_control.proofs.differences.edits_between.Goals as goal
 
 pub keys-preserved-in-Continue-1 : goal.keys-preserved-in-Continue-1
 keys-preserved-in-Continue-1 c =

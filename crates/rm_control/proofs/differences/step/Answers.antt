@@ -1,5 +1,6 @@
 use Rattle.std.proofs.Common.{◌≡◌, ◌∙◌, [], rules, sym, arith, inl, refl}
-use Rattle.rm_control.proofs.{Going.{below_place, on_none}, differences.step.Goals as goal}
+use Rattle.rm_control.proofs.Going.{below_place, on_none}
+use Rattle.rm_control.proofs.differences.step.Goals as goal
 
 pub returns-in_err-put-clause-none : goal.returns-in_err-put-clause-none
 returns-in_err-put-clause-none c =

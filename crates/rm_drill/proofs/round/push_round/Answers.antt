@@ -1,5 +1,6 @@
 use Rattle.std.{specs.String.{string_bytes}, proofs.{Common.{◌++◌, ◌∙◌, ap}, lemmas.List.{append_assoc}}}
-use Rattle.rm_drill.{specs.Script.{round_end, round_text, writes_text}, proofs.round.push_round.Goals as goal}
+use Rattle.rm_drill.specs.Script.{round_end, round_text, writes_text}
+use Rattle.rm_drill.proofs.round.push_round.Goals as goal
 
 pub returns-clause-text : goal.returns-clause-text
 unfolding round_text

@@ -1,5 +1,6 @@
 use Rattle.std.{specs.String.{string_bytes}, proofs.Common.{◌≡◌, ◌++◌, ◌∙◌, ap}}
-use Rattle.rm_drill.{specs.Script.{draw_of, next_number, statement_of, write_text}, proofs.round.push_write.Goals as goal}
+use Rattle.rm_drill.specs.Script.{draw_of, next_number, statement_of, write_text}
+use Rattle.rm_drill.proofs.round.push_write.Goals as goal
 
 pub returns-clause-text : goal.returns-clause-text
 unfolding write_text

@@ -1,5 +1,6 @@
 use Rattle.std.{specs.String.{string_bytes}, proofs.Common.{◌≡◌, ◌++◌}}
-use Rattle.rm_drill.{specs.Script.{number_after_writes, writes_text}, proofs.round.push_writes.Given as goal}
+use Rattle.rm_drill.specs.Script.{number_after_writes, writes_text}
+use Rattle.rm_drill.proofs.round.push_writes.Given as goal
 
 abbrev pub invariant-loop-k : goal.invariant-loop-k
 invariant-loop-k l = record {

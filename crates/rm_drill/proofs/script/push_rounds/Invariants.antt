@@ -1,5 +1,6 @@
 use Rattle.std.{specs.String.{string_bytes}, proofs.Common.{◌≡◌, ◌++◌}}
-use Rattle.rm_drill.{specs.Script.{number_after_rounds, rounds_text}, proofs.script.push_rounds.Given as goal}
+use Rattle.rm_drill.specs.Script.{number_after_rounds, rounds_text}
+use Rattle.rm_drill.proofs.script.push_rounds.Given as goal
 
 abbrev pub invariant-loop-index : goal.invariant-loop-index
 invariant-loop-index l = record {

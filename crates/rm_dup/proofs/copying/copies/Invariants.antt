@@ -1,5 +1,6 @@
 use Rattle.std.{specs.List.{enumerate_from}, proofs.Common.{◌≡◌, ◌+◌, ◌++◌, drop, map}}
-use Rattle.rm_dup.{specs.Copies.{copies_of, copy_as}, proofs.copying.copies.Given as goal}
+use Rattle.rm_dup.specs.Copies.{copies_of, copy_as}
+use Rattle.rm_dup.proofs.copying.copies.Given as goal
 
 abbrev pub invariant-loop-file : goal.invariant-loop-file
 invariant-loop-file l = record {

@@ -1,7 +1,8 @@
 use Rattle.std.{specs.Prelude.{IfErr, IfOk}, proofs.Common.{subst, sym}}
 use Rattle.rm_apply.specs.Recover.{FindsGap, IfGap}
 use Rattle.rm_evidence.specs.{Place.{FitsPlace}, declared.evidence.InPlace.{InPlace}}
-use Rattle.rm_dup.{specs.Duplicate.{IsDuplicate}, proofs.duplicating.duplicate.Goals as goal}
+use Rattle.rm_dup.specs.Duplicate.{IsDuplicate}
+use Rattle.rm_dup.proofs.duplicating.duplicate.Goals as goal
 
 pub duplicate_from-requires-clause-place : goal.duplicate_from-requires-clause-place
 duplicate_from-requires-clause-place g c κs within = subst (λ (p : InPlace). FitsPlace c.args.catalog.now p) (sym c.in_ok-copy.ensures) c.requires.place

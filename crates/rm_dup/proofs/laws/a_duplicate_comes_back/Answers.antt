@@ -1,4 +1,5 @@
-use Rattle.rm_dup.proofs.{Recovery.{no-gap-found, no-gap-restored, ranged}, laws.a_duplicate_comes_back.Goals as goal}
+use Rattle.rm_dup.proofs.Recovery.{no-gap-found, no-gap-restored, ranged}
+use Rattle.rm_dup.proofs.laws.a_duplicate_comes_back.Goals as goal
 
 pub returns-clause-range : goal.returns-clause-range
 returns-clause-range c held rs place i s dbid d catalog database there inside some is = ranged rs catalog database held place i s dbid there inside some d is

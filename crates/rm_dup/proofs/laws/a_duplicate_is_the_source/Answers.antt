@@ -1,4 +1,5 @@
-use Rattle.rm_dup.proofs.{Recovery.{datafiles-are, restored-blocks, same-blocks}, laws.a_duplicate_is_the_source.Goals as goal}
+use Rattle.rm_dup.proofs.Recovery.{datafiles-are, restored-blocks, same-blocks}
+use Rattle.rm_dup.proofs.laws.a_duplicate_is_the_source.Goals as goal
 
 pub returns-clause-datafiles : goal.returns-clause-datafiles
 returns-clause-datafiles c held rs place i s dbid d is = datafiles-are held rs place i s dbid d is

@@ -1,7 +1,8 @@
 use Rattle.std.proofs.Common.{◌≡◌, ◌+◌, ◌++◌, drop, map}
 use Rattle.rm_catalog_typed.specs.Ledger.{datafile_record, numbered}
 use Rattle.rm_evidence.specs.Database.{world_of}
-use Rattle.rm_dup.{specs.Copies.{as_first}, proofs.recording.push_files.Given as goal}
+use Rattle.rm_dup.specs.Copies.{as_first}
+use Rattle.rm_dup.proofs.recording.push_files.Given as goal
 
 abbrev pub invariant-loop-file : goal.invariant-loop-file
 invariant-loop-file l = record {

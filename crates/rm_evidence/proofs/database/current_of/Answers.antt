@@ -1,5 +1,6 @@
 use Rattle.std.proofs.Common.{◌∙◌, sym}
-use Rattle.rm_evidence.proofs.{Current.{has_base, current_there}, database.current_of.Goals as goal}
+use Rattle.rm_evidence.proofs.Current.{has_base, current_there}
+use Rattle.rm_evidence.proofs.database.current_of.Goals as goal
 
 pub unreachable-requires : goal.unreachable-requires
 unreachable-requires c = has_base c.args.catalog.now c.requires.database (sym c.base_of.ensures ∙ c.in-None.is)

@@ -1,5 +1,6 @@
 use Rattle.std.proofs.Common.{◌≡◌, ◌∙◌}
-use Rattle.rm_evidence.{specs.{Names.{log_name}, Objects.{IsLogObject}}, proofs.{Seen.{seen-looked}, looking.look_for_log.Goals as goal}}
+use Rattle.rm_evidence.{specs.{Names.{log_name}, Objects.{IsLogObject}}, proofs.Seen.{seen-looked}}
+use Rattle.rm_evidence.proofs.looking.look_for_log.Goals as goal
 
 pub returns-clause-told : goal.returns-clause-told
 returns-clause-told g c =

@@ -1,6 +1,7 @@
 use Rattle.std.{specs.List.{filter_map}, proofs.{Common.{◌≡◌, ◌∙◌, ◌≤◌, ℕ, List, ap, arith, length, take}, Math.Seq.{take-length}}}
 use Rattle.rm_catalog.specs.declared.record.Record.{Record}
-use Rattle.rm_evidence.{specs.Taking.{with_object}, proofs.{Ordered.{are-objects, numbered, numbered-more}, order.objects.Goals as goal}}
+use Rattle.rm_evidence.{specs.Taking.{with_object}, proofs.Ordered.{are-objects, numbered, numbered-more}}
+use Rattle.rm_evidence.proofs.order.objects.Goals as goal
 
 pub loop-row-preserved : goal.loop-row-preserved
 loop-row-preserved c =

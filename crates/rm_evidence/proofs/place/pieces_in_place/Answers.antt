@@ -2,7 +2,8 @@ use Rattle.std.{specs.Vec.Iter.{into_iter_items}, proofs.Common.{◌≡◌, ◌�
 use Rattle.std.proofs.lemmas.List.Elements.{All-rest}
 use Rattle.rm_blocks.specs.File.{File}
 use Rattle.rm_piece.specs.{Valid.{IsPiece}, declared.piece.Piece.{Piece}}
-use Rattle.rm_evidence.{specs.Gathered.{placed, placed_piece}, proofs.place.pieces_in_place.Goals as goal}
+use Rattle.rm_evidence.specs.Gathered.{placed, placed_piece}
+use Rattle.rm_evidence.proofs.place.pieces_in_place.Goals as goal
 
 pub loop-file-preserved : goal.loop-file-preserved
 loop-file-preserved c =

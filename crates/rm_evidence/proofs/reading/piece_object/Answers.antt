@@ -1,6 +1,7 @@
 use Rattle.std.{specs.Prelude.{IsTrue}, proofs.Common.{◌∙◌, sym, subst}}
 use Rattle.rm_base.proofs.Sealing.{sealed_same}
-use Rattle.rm_evidence.{specs.Objects.{HasPieceFields}, proofs.reading.piece_object.Goals as goal}
+use Rattle.rm_evidence.specs.Objects.{HasPieceFields}
+use Rattle.rm_evidence.proofs.reading.piece_object.Goals as goal
 
 pub returns-else-has_piece_fields-clause-none : goal.returns-else-has_piece_fields-clause-none
 returns-else-has_piece_fields-clause-none c x is =

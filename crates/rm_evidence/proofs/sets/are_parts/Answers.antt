@@ -1,5 +1,6 @@
 use Rattle.std.proofs.Common.{rules}
-use Rattle.rm_evidence.proofs.{Parts.{same-length}, sets.are_parts.Goals as goal}
+use Rattle.rm_evidence.proofs.Parts.{same-length}
+use Rattle.rm_evidence.proofs.sets.are_parts.Goals as goal
 
 pub returns-then-parts-members : goal.returns-then-parts-members
 returns-then-parts-members c = (

@@ -1,6 +1,7 @@
 use Rattle.std.{specs.Prelude.{IsTrue}, proofs.Common.{◌∙◌, sym, subst}}
 use Rattle.rm_base.proofs.Sealing.{sealed_same}
-use Rattle.rm_evidence.{specs.{Database.{database_in}, Objects.{HasSetFields}}, proofs.{Parts.{numbered}, sets.set_object.Goals as goal}}
+use Rattle.rm_evidence.{specs.{Database.{database_in}, Objects.{HasSetFields}}, proofs.Parts.{numbered}}
+use Rattle.rm_evidence.proofs.sets.set_object.Goals as goal
 
 pub has_set_fields-requires : goal.has_set_fields-requires
 has_set_fields-requires c = numbered c.in-Ok.set c.in-Ok.ensures.valid

@@ -1,4 +1,5 @@
-use Rattle.rm_evidence.{specs.Database.{database_in}, proofs.{Tells.{adds-seen, told-seen}, taking.take_record.Goals as goal}}
+use Rattle.rm_evidence.{specs.Database.{database_in}, proofs.Tells.{adds-seen, told-seen}}
+use Rattle.rm_evidence.proofs.taking.take_record.Goals as goal
 
 pub returns-clause-adds : goal.returns-clause-adds
 returns-clause-adds g c =

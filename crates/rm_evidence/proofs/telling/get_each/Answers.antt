@@ -1,5 +1,6 @@
 use Rattle.std.proofs.Common.{◌∙◌, ℕ, List, [], ◌∷◌, Option, ap, arith, refl, sym, subst, length, length-append}
-use Rattle.rm_evidence.{specs.Telling.{StandUnder}, proofs.{Tells.{stand-next}, telling.get_each.Goals as goal}}
+use Rattle.rm_evidence.{specs.Telling.{StandUnder}, proofs.Tells.{stand-next}}
+use Rattle.rm_evidence.proofs.telling.get_each.Goals as goal
 
 pub loop-row-init : goal.loop-row-init
 loop-row-init g c = record {

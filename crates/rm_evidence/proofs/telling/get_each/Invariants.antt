@@ -1,5 +1,6 @@
 use Rattle.std.proofs.Common.{◌≡◌, ◌≤◌, length, map, take}
-use Rattle.rm_evidence.{specs.Telling.{StandUnder}, proofs.telling.get_each.Given as goal}
+use Rattle.rm_evidence.specs.Telling.{StandUnder}
+use Rattle.rm_evidence.proofs.telling.get_each.Given as goal
 
 abbrev pub invariant-loop-row : goal.invariant-loop-row
 invariant-loop-row g l = record {

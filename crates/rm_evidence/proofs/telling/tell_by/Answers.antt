@@ -1,6 +1,7 @@
 use Rattle.std.{specs.Slice.Iter.{chunks_rest}, proofs.Common.{◌≡◌, ◌∙◌, List, ap, arith, length, map, refl, rules, subst, sym}}
 use Rattle.rm_evidence.specs.{Database.{database_in}, Telling.{AreTold}, declared.telling.Told.{Told}}
-use Rattle.rm_evidence.proofs.{Tells.{IsToldBefore, before-end, before-none, before-part}, telling.tell_by.Goals as goal}
+use Rattle.rm_evidence.proofs.Tells.{IsToldBefore, before-end, before-none, before-part}
+use Rattle.rm_evidence.proofs.telling.tell_by.Goals as goal
 
 pub loop-part-init : goal.loop-part-init
 loop-part-init g c =

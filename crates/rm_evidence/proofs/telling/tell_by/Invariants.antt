@@ -1,5 +1,6 @@
 use Rattle.std.{specs.Slice.Iter.{chunks_rest}, proofs.Common.{◌≡◌, ◌≤◌}}
-use Rattle.rm_evidence.{specs.Database.{database_in}, proofs.{Tells.{IsToldBefore}, telling.tell_by.Given as goal}}
+use Rattle.rm_evidence.{specs.Database.{database_in}, proofs.Tells.{IsToldBefore}}
+use Rattle.rm_evidence.proofs.telling.tell_by.Given as goal
 
 abbrev pub invariant-loop-part : goal.invariant-loop-part
 invariant-loop-part g l = record {

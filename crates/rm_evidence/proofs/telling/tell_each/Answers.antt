@@ -1,5 +1,6 @@
 use Rattle.std.proofs.Common.{List, ℕ, Option, map, sym, subst}
-use Rattle.rm_evidence.{specs.{Database.{database_in}, Telling.{StandUnder}}, proofs.{Tells.{are-told}, telling.tell_each.Goals as goal}}
+use Rattle.rm_evidence.{specs.{Database.{database_in}, Telling.{StandUnder}}, proofs.Tells.{are-told}}
+use Rattle.rm_evidence.proofs.telling.tell_each.Goals as goal
 
 pub returns-clause-told : goal.returns-clause-told
 returns-clause-told g c =

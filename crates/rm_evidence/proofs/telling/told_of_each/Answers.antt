@@ -2,7 +2,8 @@ use Rattle.std.specs.{Prelude.{IfOk, Result}, Vec.Iter.{into_iter_items}}
 use Rattle.std.proofs.Common.{◌≡◌, ◌∙◌, ◌+◌, ◌<◌, ℕ, List, [], ◌∷◌, Option, ap, arith, rules, sym, subst, drop, length, length-append}
 use Rattle.rm_base.specs.declared.faults.NoMemory.{NoMemory}
 use Rattle.rm_evidence.specs.{Database.{database_in}, Telling.{TellsAt}, declared.telling.Told.{Told}}
-use Rattle.rm_evidence.proofs.{Tells.{first-left, tell-next}, telling.told_of_each.Goals as goal}
+use Rattle.rm_evidence.proofs.Tells.{first-left, tell-next}
+use Rattle.rm_evidence.proofs.telling.told_of_each.Goals as goal
 
 pub loop-told-preserved : goal.loop-told-preserved
 loop-told-preserved g c =

@@ -1,5 +1,6 @@
 use Rattle.std.{specs.Vec.Iter.{into_iter_items}, proofs.Common.{◌≡◌, ◌+◌, drop, length, map, take}}
-use Rattle.rm_evidence.{specs.{Database.{database_in}, Telling.{TellAll}}, proofs.telling.told_of_each.Given as goal}
+use Rattle.rm_evidence.specs.{Database.{database_in}, Telling.{TellAll}}
+use Rattle.rm_evidence.proofs.telling.told_of_each.Given as goal
 
 abbrev pub invariant-loop-told : goal.invariant-loop-told
 invariant-loop-told g l = record {

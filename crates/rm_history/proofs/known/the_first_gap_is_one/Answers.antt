@@ -1,4 +1,5 @@
-use Rattle.rm_history.proofs.{Facts.{first-gap-one, first-gap-open}, known.the_first_gap_is_one.Goals as goal}
+use Rattle.rm_history.proofs.Facts.{first-gap-one, first-gap-open}
+use Rattle.rm_history.proofs.known.the_first_gap_is_one.Goals as goal
 
 pub returns-clause-one : goal.returns-clause-one
 returns-clause-one _ w e i s f b m g c d n k first second = first-gap-one w e i s f b m g c d n k first second

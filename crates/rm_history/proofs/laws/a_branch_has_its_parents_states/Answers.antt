@@ -1,4 +1,5 @@
-use Rattle.rm_history.proofs.{Worlds.{state-branched, exists-branched}, laws.a_branch_has_its_parents_states.Goals as goal}
+use Rattle.rm_history.proofs.Worlds.{state-branched, exists-branched}
+use Rattle.rm_history.proofs.laws.a_branch_has_its_parents_states.Goals as goal
 
 pub returns-clause-state : goal.returns-clause-state
 returns-clause-state c w p at h s f b is there = state-branched w p at is.parents there h s f b

@@ -1,5 +1,6 @@
 use Rattle.rm_history.proofs.{Ends.{IsTree-with_end}, Histories.{IsHistory-with_end, state-with_end}}
-use Rattle.rm_history.proofs.{Worlds.{exists-with_end, BaseAgrees-with_end, Level1Agrees-with_end}, laws.ends_change_no_state.Goals as goal}
+use Rattle.rm_history.proofs.Worlds.{exists-with_end, BaseAgrees-with_end, Level1Agrees-with_end}
+use Rattle.rm_history.proofs.laws.ends_change_no_state.Goals as goal
 
 pub returns-clause-tree : goal.returns-clause-tree
 returns-clause-tree c tree j end is there = IsTree-with_end tree j end there is

@@ -1,4 +1,5 @@
-use Rattle.rm_history.proofs.{Growth.{BaseAgrees-grown, Level1Agrees-grown}, laws.growth_keeps_agreement.Goals as goal}
+use Rattle.rm_history.proofs.Growth.{BaseAgrees-grown, Level1Agrees-grown}
+use Rattle.rm_history.proofs.laws.growth_keeps_agreement.Goals as goal
 
 pub returns-clause-base : goal.returns-clause-base
 returns-clause-base c w h d a history = BaseAgrees-grown w h d history a

@@ -1,4 +1,5 @@
-use Rattle.rm_history.proofs.{Highs.{high-least, high-above, high-held}, laws.high_is_the_greatest.Goals as goal}
+use Rattle.rm_history.proofs.Highs.{high-least, high-above, high-held}
+use Rattle.rm_history.proofs.laws.high_is_the_greatest.Goals as goal
 
 pub returns-clause-checkpoint : goal.returns-clause-checkpoint
 returns-clause-checkpoint c = high-least

@@ -1,4 +1,5 @@
-use Rattle.rm_history.proofs.{Growth.{state-push_top}, Histories.{state-push_other}, laws.one_change_more.Goals as goal}
+use Rattle.rm_history.proofs.{Growth.{state-push_top}, Histories.{state-push_other}}
+use Rattle.rm_history.proofs.laws.one_change_more.Goals as goal
 
 pub returns-clause-other : goal.returns-clause-other
 returns-clause-other c = state-push_other

@@ -1,4 +1,5 @@
-use Rattle.rm_history.proofs.{Orders.{base-same, level1-same}, laws.order_changes_no_agreement.Goals as goal}
+use Rattle.rm_history.proofs.Orders.{base-same, level1-same}
+use Rattle.rm_history.proofs.laws.order_changes_no_agreement.Goals as goal
 
 pub returns-clause-base : goal.returns-clause-base
 returns-clause-base c w h k a history same = base-same w k history h same a

@@ -1,4 +1,5 @@
-use Rattle.rm_history.proofs.{Owners.{owner-there, owner-begun, owner-owner, owner-here}, laws.owners.Goals as goal}
+use Rattle.rm_history.proofs.Owners.{owner-there, owner-begun, owner-owner, owner-here}
+use Rattle.rm_history.proofs.laws.owners.Goals as goal
 
 pub returns-clause-there : goal.returns-clause-there
 returns-clause-there c tree i g is = owner-there tree is.parents i g

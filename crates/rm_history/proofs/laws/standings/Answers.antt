@@ -1,4 +1,5 @@
-use Rattle.rm_history.proofs.{Paths.{standing-is_current, standing-is_parent, standing-is_orphan}, laws.standings.Goals as goal}
+use Rattle.rm_history.proofs.Paths.{standing-is_current, standing-is_parent, standing-is_orphan}
+use Rattle.rm_history.proofs.laws.standings.Goals as goal
 
 pub returns-clause-current : goal.returns-clause-current
 returns-clause-current c = standing-is_current

@@ -1,4 +1,5 @@
-use Rattle.rm_history.proofs.{States.{state-held}, laws.state_is_held.Goals as goal}
+use Rattle.rm_history.proofs.States.{state-held}
+use Rattle.rm_history.proofs.laws.state_is_held.Goals as goal
 
 pub returns : goal.returns
 returns c = state-held

@@ -1,6 +1,7 @@
 use Rattle.std.proofs.Common.{◌≡◌, ◌<◌, ◌∙◌, ap, sym, subst, arith}
 use Rattle.rm_history.{specs.{Tree.{parent_of, is_on_path}, declared.tree.Incarnation.{Incarnation}}, proofs.Owners.{parent-there}}
-use Rattle.rm_history.proofs.{Paths.{is_on_path-here, is_on_path-above, is_on_path-none}, tree.is_on_path.Goals as goal}
+use Rattle.rm_history.proofs.Paths.{is_on_path-here, is_on_path-above, is_on_path-none}
+use Rattle.rm_history.proofs.tree.is_on_path.Goals as goal
 
 abbrev any : Incarnation
 any = record { parent = 0; reset = 0; end = 0 }

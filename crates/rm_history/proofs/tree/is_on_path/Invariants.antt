@@ -1,5 +1,6 @@
 use Rattle.std.proofs.Common.{◌≡◌, ◌≤◌, length}
-use Rattle.rm_history.{specs.Tree.{is_on_path}, proofs.tree.is_on_path.Given as goal}
+use Rattle.rm_history.specs.Tree.{is_on_path}
+use Rattle.rm_history.proofs.tree.is_on_path.Given as goal
 
 abbrev pub invariant-loop-at : goal.invariant-loop-at
 invariant-loop-at l = record { same : is_on_path l.incarnations l.j l.at ≡ is_on_path l.incarnations l.j l.i; there : l.at ≤ length l.incarnations }

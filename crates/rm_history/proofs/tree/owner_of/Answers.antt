@@ -1,6 +1,7 @@
 use Rattle.std.proofs.Common.{◌≡◌, ◌<◌, ◌≤◌, ◌∙◌, ap, sym, subst, arith}
 use Rattle.rm_history.specs.{Tree.{owner, parent_of, reset_of}, declared.tree.Incarnation.{Incarnation}}
-use Rattle.rm_history.proofs.{Owners.{owner-here, owner-above, owner-none, parent-there, reset-there}, tree.owner_of.Goals as goal}
+use Rattle.rm_history.proofs.Owners.{owner-here, owner-above, owner-none, parent-there, reset-there}
+use Rattle.rm_history.proofs.tree.owner_of.Goals as goal
 
 abbrev any : Incarnation
 any = record { parent = 0; reset = 0; end = 0 }

@@ -1,5 +1,6 @@
 use Rattle.std.proofs.Common.{◌≡◌, ◌≤◌, length}
-use Rattle.rm_history.{specs.Tree.{owner}, proofs.tree.owner_of.Given as goal}
+use Rattle.rm_history.specs.Tree.{owner}
+use Rattle.rm_history.proofs.tree.owner_of.Given as goal
 
 abbrev pub invariant-loop-at : goal.invariant-loop-at
 invariant-loop-at l = record { same : owner l.incarnations l.at l.g ≡ owner l.incarnations l.i l.g; there : l.at ≤ length l.incarnations }

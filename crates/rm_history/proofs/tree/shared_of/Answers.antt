@@ -1,6 +1,7 @@
 use Rattle.std.proofs.Common.{◌≡◌, ◌<◌, ◌∙◌, ap, sym, subst, arith, min}
 use Rattle.rm_history.specs.{Tree.{IsThere, parent_of, reset_of}, declared.tree.Incarnation.{Incarnation}}
-use Rattle.rm_history.proofs.{Owners.{parent-there, reset-there}, Shared.{IsFork, fork-first, fork-second}, tree.shared_of.Goals as goal}
+use Rattle.rm_history.proofs.{Owners.{parent-there, reset-there}, Shared.{IsFork, fork-first, fork-second}}
+use Rattle.rm_history.proofs.tree.shared_of.Goals as goal
 
 abbrev any : Incarnation
 any = record { parent = 0; reset = 0; end = 0 }

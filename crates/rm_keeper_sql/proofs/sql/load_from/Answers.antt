@@ -1,6 +1,7 @@
 use Rattle.std.proofs.{Common.{true, refl, rules}, lemmas.Result.{IfOk-weaker}}
 use Rattle.sqlite.specs.Held.{state}
-use Rattle.rm_keeper_sql.proofs.{Kept.{shown_keeps}, Loaded.{reads, reads_none, lists, lists_none}, sql.load_from.Goals as goal}
+use Rattle.rm_keeper_sql.proofs.{Kept.{shown_keeps}, Loaded.{reads, reads_none, lists, lists_none}}
+use Rattle.rm_keeper_sql.proofs.sql.load_from.Goals as goal
 
 pub returns-clause-reads : goal.returns-clause-reads
 returns-clause-reads g c clean =

@@ -1,5 +1,6 @@
 use Rattle.sqlite.specs.Held.{state}
-use Rattle.rm_keeper_sql.proofs.{Kept.{prepare_keeps, prepare_shuts}, sql.probe.Goals as goal}
+use Rattle.rm_keeper_sql.proofs.Kept.{prepare_keeps, prepare_shuts}
+use Rattle.rm_keeper_sql.proofs.sql.probe.Goals as goal
 
 pub returns-clause-kept : goal.returns-clause-kept
 returns-clause-kept g c clean =

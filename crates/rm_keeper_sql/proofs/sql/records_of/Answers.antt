@@ -1,7 +1,8 @@
 use Rattle.std.proofs.{Common.{◌≡◌, ◌∙◌, ◌+◌, ◌++◌, ◌∷◌, [], List, take, sym, ap, subst}, lemmas.List.{take_more}}
 use Rattle.sqlite_value.specs.Order.{Row}
 use Rattle.rm_catalog.specs.declared.record.Record.{Record}
-use Rattle.rm_keeper_sql.{specs.Loads.{AreRows}, proofs.{Rows.{rows_more}, sql.records_of.Goals as goal}}
+use Rattle.rm_keeper_sql.{specs.Loads.{AreRows}, proofs.Rows.{rows_more}}
+use Rattle.rm_keeper_sql.proofs.sql.records_of.Goals as goal
 
 pub loop-row-preserved : goal.loop-row-preserved
 loop-row-preserved c =

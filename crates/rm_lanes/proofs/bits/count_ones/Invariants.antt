@@ -1,5 +1,6 @@
 use Rattle.std.proofs.Common.{◌≡◌, ◌≤◌, ◌-◌, length, take}
-use Rattle.rm_lanes.{specs.Bits.{set_count}, proofs.bits.count_ones.Given as goal}
+use Rattle.rm_lanes.specs.Bits.{set_count}
+use Rattle.rm_lanes.proofs.bits.count_ones.Given as goal
 
 abbrev pub invariant-lanes : goal.invariant-lanes
 invariant-lanes l = record { within : l.i ≤ length l.bits; value : l.count ≡ set_count (take l.i l.bits) }

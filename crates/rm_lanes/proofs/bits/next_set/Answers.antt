@@ -1,5 +1,6 @@
 use Rattle.std.proofs.Common.{arith, slice_index}
-use Rattle.rm_lanes.proofs.{Zeros.{has_bit}, bits.next_set.Goals as goal}
+use Rattle.rm_lanes.proofs.Zeros.{has_bit}
+use Rattle.rm_lanes.proofs.bits.next_set.Goals as goal
 
 pub returns-in_err-bit-clause-none : goal.returns-in_err-bit-clause-none
 returns-in_err-bit-clause-none c =

@@ -1,5 +1,6 @@
 use Rattle.std.proofs.Common.{length, ◌-◌}
-use Rattle.rm_lanes.proofs.{Ored.{OredBelow}, bits.or_into.Given as goal}
+use Rattle.rm_lanes.proofs.Ored.{OredBelow}
+use Rattle.rm_lanes.proofs.bits.or_into.Given as goal
 
 abbrev pub invariant-lanes : goal.invariant-lanes
 invariant-lanes l = OredBelow l.i l.fn.to l.from l.to

@@ -1,5 +1,6 @@
 use Rattle.std.proofs.Common.{arith, inl, inr, rules}
-use Rattle.rm_lanes.proofs.{Ored.{below_or_not}, Zeros.{zero_at}, bits.skip_zeros.Goals as goal}
+use Rattle.rm_lanes.proofs.{Ored.{below_or_not}, Zeros.{zero_at}}
+use Rattle.rm_lanes.proofs.bits.skip_zeros.Goals as goal
 
 pub lanes-preserved : goal.lanes-preserved
 lanes-preserved c = record {

@@ -1,6 +1,7 @@
 use Rattle.std.proofs.Common.{◌≡◌, length, arith, rules, ap}
 use Rattle.rm_base.specs.declared.block.Block.{Block}
-use Rattle.rm_lanes.proofs.{Equal.{mask_of-zero}, blocks.same.Goals as goal}
+use Rattle.rm_lanes.proofs.Equal.{mask_of-zero}
+use Rattle.rm_lanes.proofs.blocks.same.Goals as goal
 
 pub returns : goal.returns
 returns c =

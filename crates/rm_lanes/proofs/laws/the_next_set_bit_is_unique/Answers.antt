@@ -1,4 +1,5 @@
-use Rattle.rm_lanes.proofs.{SetBits.{next-one}, laws.the_next_set_bit_is_unique.Goals as goal}
+use Rattle.rm_lanes.proofs.SetBits.{next-one}
+use Rattle.rm_lanes.proofs.laws.the_next_set_bit_is_unique.Goals as goal
 
 pub returns-clause-one : goal.returns-clause-one
 returns-clause-one c = next-one

@@ -1,6 +1,7 @@
 use Rattle.std.proofs.Common.{◌∙◌, codes, ◌∷◌, []}
 use Rattle.rm_lang_token.specs.declared.token.Token.TheVariants.{Word, Sign}
-use Rattle.rm_lang.proofs.{Listed.{joined}, Backups.{tested}, backup.backup.Goals as goal}
+use Rattle.rm_lang.proofs.{Listed.{joined}, Backups.{tested}}
+use Rattle.rm_lang.proofs.backup.backup.Goals as goal
 
 pub merge-requires : goal.merge-requires
 merge-requires c = (tested c.args.form.now c.requires).merge

@@ -1,7 +1,8 @@
 use Rattle.std.proofs.Common.{◌<◌, ◌∙◌, sym, length, arith, codes}
 use Rattle.rm_lang_grammar.specs.Spelling.{spelled}
 use Rattle.rm_lang_reading.specs.{Creating.{write_part}, Values.{write_values}}
-use Rattle.rm_lang.proofs.{Listed.{many_push}, backup.writes.Goals as goal}
+use Rattle.rm_lang.proofs.Listed.{many_push}
+use Rattle.rm_lang.proofs.backup.writes.Goals as goal
 
 pub loop-form-preserved : goal.loop-form-preserved
 loop-form-preserved c =

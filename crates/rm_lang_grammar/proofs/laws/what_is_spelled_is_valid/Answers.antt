@@ -1,4 +1,5 @@
-use Rattle.rm_lang_grammar.proofs.{Spelled.{spells_valid}, laws.what_is_spelled_is_valid.Goals as goal}
+use Rattle.rm_lang_grammar.proofs.Spelled.{spells_valid}
+use Rattle.rm_lang_grammar.proofs.laws.what_is_spelled_is_valid.Goals as goal
 
 pub returns : goal.returns
 returns c = spells_valid

@@ -1,5 +1,6 @@
 use Rattle.std.proofs.Common.{◌≡◌, ◌++◌, length}
-use Rattle.rm_lang_grammar.{specs.Reading.{more_at}, proofs.reading.more_numbers.Given as goal}
+use Rattle.rm_lang_grammar.specs.Reading.{more_at}
+use Rattle.rm_lang_grammar.proofs.reading.more_numbers.Given as goal
 
 abbrev pub invariant-loop-rest : goal.invariant-loop-rest
 invariant-loop-rest l = record {

@@ -1,5 +1,6 @@
 use Rattle.std.proofs.{Common.{◌∙◌, rules, tests}, lemmas.Iterator.{YieldsList-from_slice, Search.{all_from_yields_List}}}
-use Rattle.rm_lang_grammar.proofs.{Capitals.{is_capital, capitals-all}, tags.are_capitals.Goals as goal}
+use Rattle.rm_lang_grammar.proofs.Capitals.{is_capital, capitals-all}
+use Rattle.rm_lang_grammar.proofs.tags.are_capitals.Goals as goal
 
 pub returns : goal.returns
 returns c =

@@ -1,6 +1,7 @@
 use Rattle.std.proofs.{Common.{◌∙◌, ap}, lemmas.List.Filters.{dedup_is}}
 use Rattle.rm_lang_statement.specs.Named.{in_order}
-use Rattle.rm_lang_reading.proofs.{InOrder.{in_order-sorted}, backup.in_order.Goals as goal}
+use Rattle.rm_lang_reading.proofs.InOrder.{in_order-sorted}
+use Rattle.rm_lang_reading.proofs.backup.in_order.Goals as goal
 
 pub returns : goal.returns
 returns c =

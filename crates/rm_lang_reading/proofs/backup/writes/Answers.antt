@@ -1,6 +1,7 @@
 use Rattle.std.proofs.{lemmas.List.{map-append}, Common.{◌≡◌, ◌∙◌, sym, ap, ◌∷◌, [], rules, arith, codes, map, length, ◌-◌, true, false}}
 use Rattle.rm_lang_grammar.{specs.Reading.{begins_with}, proofs.Manys.{many_first, many_step, many_stops, many_ends, many_err}}
-use Rattle.rm_lang_reading.{specs.{Backups.{write_at}, Values.{write_values}}, proofs.backup.writes.Goals as goal}
+use Rattle.rm_lang_reading.specs.{Backups.{write_at}, Values.{write_values}}
+use Rattle.rm_lang_reading.proofs.backup.writes.Goals as goal
 
 pub loop-init : goal.loop-init
 loop-init c = rw c.new-writes.ensures.items (many_first (begins_with (codes "WRITE")) write_at (length c.args.tokens.now) c.args.tokens.now)

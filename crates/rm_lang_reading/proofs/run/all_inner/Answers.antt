@@ -1,7 +1,8 @@
 use Rattle.std.proofs.Common.{◌≡◌, ◌∙◌, sym, rules, arith, length, ◌-◌, true, false}
 use Rattle.rm_lang_grammar.specs.{Forms.{command_in}, Blocks.{goes_on}}
 use Rattle.rm_lang_grammar.proofs.Manys.{many_first, many_step, many_stops, many_ends, many_err}
-use Rattle.rm_lang_reading.{specs.Language.{inner_forms}, proofs.run.all_inner.Goals as goal}
+use Rattle.rm_lang_reading.specs.Language.{inner_forms}
+use Rattle.rm_lang_reading.proofs.run.all_inner.Goals as goal
 
 pub loop-init : goal.loop-init
 loop-init c = rw c.new-found.ensures.items (many_first goes_on (command_in inner_forms) (length c.args.tokens.now) c.args.tokens.now)

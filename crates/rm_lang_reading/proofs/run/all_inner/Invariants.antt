@@ -1,6 +1,7 @@
 use Rattle.std.proofs.Common.{◌≡◌, length, ◌-◌}
 use Rattle.rm_lang_grammar.{specs.{Reading.{many_at}, Forms.{command_in}, Blocks.{goes_on}}, proofs.Manys.{put_before}}
-use Rattle.rm_lang_reading.{specs.Language.{inner_forms}, proofs.run.all_inner.Given as goal}
+use Rattle.rm_lang_reading.specs.Language.{inner_forms}
+use Rattle.rm_lang_reading.proofs.run.all_inner.Given as goal
 
 abbrev pub invariant-loop : goal.invariant-loop
 invariant-loop l =

@@ -1,5 +1,6 @@
 -- The bytes of a word are ASCII.
-use Rattle.rm_lang_token.proofs.{Ascii.{letter-below, word-ascii}, scan.word_lexeme.Goals as goal}
+use Rattle.rm_lang_token.proofs.Ascii.{letter-below, word-ascii}
+use Rattle.rm_lang_token.proofs.scan.word_lexeme.Goals as goal
 
 pub word_of-requires : goal.word_of-requires
 word_of-requires c = record {

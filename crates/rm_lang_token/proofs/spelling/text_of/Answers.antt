@@ -1,6 +1,7 @@
 -- What the text is read back as.
 use Rattle.std.proofs.{lemmas.Grind.{common_steps}, Common.{arith}}
-use Rattle.rm_lang_token.proofs.{ReadBack.{tokens-tokens_text, statements-tokens_text, feeds-tokens_text}, spelling.text_of.Goals as goal}
+use Rattle.rm_lang_token.proofs.ReadBack.{tokens-tokens_text, statements-tokens_text, feeds-tokens_text}
+use Rattle.rm_lang_token.proofs.spelling.text_of.Goals as goal
 
 pub returns-clause-text : goal.returns-clause-text
 returns-clause-text c = grind (arith, common_steps)

@@ -1,6 +1,7 @@
 use Rattle.std.proofs.Common.{ap, ap₂, sym, true, ◌∙◌}
 use Rattle.clap.specs.{Words.{Shape, with_rule}, Simple.{app_of_fields, on_top}, declared.builder.Command.{Command, TheOpen.{Command-F}}}
-use Rattle.rm_lang_words.proofs.{Clap.{one_more}, clap_command.command.Goals as goal}
+use Rattle.rm_lang_words.proofs.Clap.{one_more}
+use Rattle.rm_lang_words.proofs.clap_command.command.Goals as goal
 
 pub loop-entry-init : goal.loop-entry-init
 loop-entry-init c =

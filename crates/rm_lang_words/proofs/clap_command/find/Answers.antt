@@ -2,7 +2,8 @@ use Rattle.std.{specs.String.{string_bytes}, proofs.Common.{ap, sym, ◌≡◌, 
 use Rattle.clap.specs.{Kinds.{HasKind, Kinds}, Values.{kind_of}}
 use Rattle.clap.specs.{Words.{fault_of, found_of, first_of, is_simple, is_simple_and_free, matches_of}, declared.error.Error.{Error}}
 use Rattle.clap.{specs.declared.error.kind.ErrorKind.TheVariants.{OutOfMemory}, proofs.WalkLemmas.{first_value-rows}}
-use Rattle.rm_lang_words.{specs.{Clap.{faults, found}, Form.{form_of}}, proofs.{Clap.{free, simple}, clap_command.find.Goals as goal}}
+use Rattle.rm_lang_words.{specs.{Clap.{faults, found}, Form.{form_of}}, proofs.Clap.{free, simple}}
+use Rattle.rm_lang_words.proofs.clap_command.find.Goals as goal
 
 pub returns-in-Ok-clause-taken : goal.returns-in-Ok-clause-taken
 unfolding faults

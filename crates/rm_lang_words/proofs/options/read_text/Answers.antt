@@ -1,5 +1,6 @@
 use Rattle.std.{specs.String.{string_bytes}, proofs.Common.{◌∙◌, ap, map, option_map, sym}}
-use Rattle.rm_lang_words.{specs.Form.{form_of, is_flag}, proofs.{Joined.{read_flag, read_whole}, options.read_text.Goals as goal}}
+use Rattle.rm_lang_words.{specs.Form.{form_of, is_flag}, proofs.Joined.{read_flag, read_whole}}
+use Rattle.rm_lang_words.proofs.options.read_text.Goals as goal
 
 pub returns-in_ok-push_option-in-true-None-clause-read : goal.returns-in_ok-push_option-in-true-None-clause-read
 returns-in_ok-push_option-in-true-None-clause-read c =

@@ -1,6 +1,7 @@
 use Rattle.std.proofs.{Common.{Some, None, arith, ap, sym, ◌∙◌}, lemmas.Str.Pattern.{split_parts}}
 use Rattle.clap.proofs.LexerLemmas.{name_and_value-at, name_and_value-without}
-use Rattle.rm_lang_words.{specs.Options.{split}, proofs.options.split.Goals as goal}
+use Rattle.rm_lang_words.specs.Options.{split}
+use Rattle.rm_lang_words.proofs.options.split.Goals as goal
 
 pub returns-in-Some : goal.returns-in-Some
 returns-in-Some c =

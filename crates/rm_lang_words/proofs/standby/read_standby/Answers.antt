@@ -2,7 +2,8 @@ use Rattle.std.specs.{Prelude.{is_some, option_and_then, option_map}, String.{st
 use Rattle.std.proofs.Common.{◌≡◌, ◌∙◌, Some, [], false, map, refl, sym, subst, ap, arith, codes}
 use Rattle.rm_lang_words.specs.{Options.{given_in}, Form.{is_flag}, Standby.{standby_by, standby_form, standby_said, task_in, task_of}}
 use Rattle.rm_lang_words.specs.Reading.{AreOf, AreRead, Fails, standby_of, words_behind}
-use Rattle.rm_lang_words.proofs.{Told.{fails, number_told, text_told, told, unread, untold}, standby.read_standby.Goals as goal}
+use Rattle.rm_lang_words.proofs.Told.{fails, number_told, text_told, told, unread, untold}
+use Rattle.rm_lang_words.proofs.standby.read_standby.Goals as goal
 
 pub returns-in_err-words : goal.returns-in_err-words
 returns-in_err-words c =

@@ -1,5 +1,6 @@
 use Rattle.std.proofs.{Common.{arith, sym, true, false, ◌∙◌, ℕ, Ok, Err}, lemmas.Str.Parse.{parse_digits}}
-use Rattle.rm_lang_words.proofs.{Numbers.{decided, own, refused}, values.number_in.Goals as goal}
+use Rattle.rm_lang_words.proofs.Numbers.{decided, own, refused}
+use Rattle.rm_lang_words.proofs.values.number_in.Goals as goal
 
 pub returns-then-is_between-clause-is : goal.returns-then-is_between-clause-is
 returns-then-is_between-clause-is c =

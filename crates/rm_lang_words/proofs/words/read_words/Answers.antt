@@ -1,7 +1,8 @@
 use Rattle.std.specs.String.{string_bytes}
 use Rattle.std.proofs.Common.{ℕ, ◌≤◌, ◌∙◌, IfSome, Option, Some, false, map, refl, sym, subst, ap, arith, codes}
 use Rattle.rm_lang_words.specs.{Words.{run_form, run_said, said}, Reading.{AreOf, AreRead, said_of}}
-use Rattle.rm_lang_words.proofs.{Told.{fails, number_told, number_within, text_told, told, untold}, words.read_words.Goals as goal}
+use Rattle.rm_lang_words.proofs.Told.{fails, number_told, number_within, text_told, told, untold}
+use Rattle.rm_lang_words.proofs.words.read_words.Goals as goal
 
 -- from 1 to 16, where there are any
 abbrev AreFew : Option ℕ → Type 0

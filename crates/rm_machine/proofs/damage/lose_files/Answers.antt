@@ -1,6 +1,7 @@
 use Rattle.std.proofs.Common.{◌≡◌, ◌<◌, ◌+◌, ◌∙◌, ◌++◌, None, arith, drop, length, sym, subst, take}
-use Rattle.rm_machine.{specs.Damage.{undamaged}, proofs.{DamageLoops.{as-many, kept-next, lost-next}, damage.lose_files.Goals as goal}}
+use Rattle.rm_machine.{specs.Damage.{undamaged}, proofs.DamageLoops.{as-many, kept-next, lost-next}}
 use Rattle.rm_machine.proofs.damage.lose_files.Goals.{then-has_file+in-Some-1, then-has_file+in-None-1, else-has_file}
+use Rattle.rm_machine.proofs.damage.lose_files.Goals as goal
 
 pub loop-index-preserved : goal.loop-index-preserved
 loop-index-preserved c =

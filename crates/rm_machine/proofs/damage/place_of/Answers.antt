@@ -1,5 +1,6 @@
 use Rattle.std.proofs.Common.{◌∙◌, sym}
-use Rattle.rm_machine.proofs.{DamageLoops.{place-here, place-more}, damage.place_of.Goals as goal}
+use Rattle.rm_machine.proofs.DamageLoops.{place-here, place-more}
+use Rattle.rm_machine.proofs.damage.place_of.Goals as goal
 
 pub loop-index-preserved : goal.loop-index-preserved
 loop-index-preserved c =

@@ -1,7 +1,8 @@
 use Rattle.std.proofs.Common.{◌≡◌, drop, map, take}
 use Rattle.rm_report.specs.declared.line.Line.TheVariants.{Deleted}
 use Rattle.rm_catalog_typed.specs.Changes.{EditsFollow}
-use Rattle.rm_machine.{specs.Upkeep.{with_catalog, without_all}, proofs.drops.drop_records.Given as goal}
+use Rattle.rm_machine.specs.Upkeep.{with_catalog, without_all}
+use Rattle.rm_machine.proofs.drops.drop_records.Given as goal
 
 abbrev pub invariant-loop-id : goal.invariant-loop-id
 invariant-loop-id l = record {

@@ -1,5 +1,6 @@
 use Rattle.std.proofs.Common.{◌∙◌, sym}
-use Rattle.rm_machine.proofs.{Refused.{absent-found, absent-more}, during.absent_of.Goals as goal}
+use Rattle.rm_machine.proofs.Refused.{absent-found, absent-more}
+use Rattle.rm_machine.proofs.during.absent_of.Goals as goal
 
 pub loop-write-preserved : goal.loop-write-preserved
 loop-write-preserved c =

@@ -1,7 +1,8 @@
 use Rattle.std.proofs.{Common.{rules, tests, ◌≡◌, ◌∙◌, ◌==◌, List, sym, filter, length}, lemmas.Iterator.{YieldsList-from_slice}}
 use Rattle.std.proofs.lemmas.{Iterator.Consumers.{YieldsList-from_filter, count_from_yields_List}, List.{length-map}}
 use Rattle.rm_lang_statement.specs.declared.command.WriteForm.{WriteForm}
-use Rattle.rm_machine.{specs.Asked.{write_job}, proofs.during.count_by.Goals as goal}
+use Rattle.rm_machine.specs.Asked.{write_job}
+use Rattle.rm_machine.proofs.during.count_by.Goals as goal
 
 pub returns : goal.returns
 returns c =

@@ -1,5 +1,6 @@
 use Rattle.std.proofs.Common.{◌∙◌, sym}
-use Rattle.rm_machine.proofs.{Refused.{logs-lack, logs-more}, during.lacks_logs.Goals as goal}
+use Rattle.rm_machine.proofs.Refused.{logs-lack, logs-more}
+use Rattle.rm_machine.proofs.during.lacks_logs.Goals as goal
 
 pub loop-index-preserved : goal.loop-index-preserved
 loop-index-preserved c =

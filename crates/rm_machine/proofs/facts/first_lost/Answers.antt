@@ -2,7 +2,8 @@ use Rattle.std.proofs.Common.{◌≡◌, ◌<◌, ◌+◌, ◌∙◌, ◌&&◌, 
 use Rattle.rm_blocks.specs.File.{File}
 use Rattle.rm_history.specs.{World.{exists}, declared.world.Datafile.{Datafile}}
 use Rattle.rm_machine.{specs.{Mount.{first_lost}, State.{ledger, world}}, proofs.Losses.{held-by, lost-next}}
-use Rattle.rm_machine.proofs.facts.first_lost.{Goals as goal, Goals.{else-exists-via-then-exists+else-is_none, else-exists-via-else-exists}}
+use Rattle.rm_machine.proofs.facts.first_lost.Goals.{else-exists-via-then-exists+else-is_none, else-exists-via-else-exists}
+use Rattle.rm_machine.proofs.facts.first_lost.Goals as goal
 
 abbrev any : Datafile
 any = record { inc = 0; creation = 0; blocks = 0 }

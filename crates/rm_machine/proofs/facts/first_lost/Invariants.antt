@@ -1,5 +1,6 @@
 use Rattle.std.proofs.Common.{◌≡◌, ◌+◌, drop}
-use Rattle.rm_machine.{specs.{Mount.{first_lost}, State.{ledger, world}}, proofs.facts.first_lost.Given as goal}
+use Rattle.rm_machine.specs.{Mount.{first_lost}, State.{ledger, world}}
+use Rattle.rm_machine.proofs.facts.first_lost.Given as goal
 
 abbrev pub invariant-loop-index : goal.invariant-loop-index
 invariant-loop-index l =

@@ -1,6 +1,7 @@
 use Rattle.std.proofs.{Common.{◌+◌, inl, inr, sym, subst, arith}, lemmas.Bool.{cases_eq}}
 use Rattle.rm_redo.specs.Online.{IsLost, IsThread}
-use Rattle.rm_machine.proofs.{LostLogs.{lost-found, lost-none}, facts.has_lost.Goals as goal}
+use Rattle.rm_machine.proofs.LostLogs.{lost-found, lost-none}
+use Rattle.rm_machine.proofs.facts.has_lost.Goals as goal
 
 pub loop-index-init : goal.loop-index-init
 loop-index-init c = λ t low is. let some = is.0 in absurd (omega (arith, low, some))

@@ -1,5 +1,6 @@
 use Rattle.std.{specs.List.{filter_map}, proofs.Common.{◌≡◌, ◌+◌, ◌++◌, drop, map}}
-use Rattle.rm_machine.{specs.{Damage.{undamaged}, State.{counted}}, proofs.hand.files_in_place.Given as goal}
+use Rattle.rm_machine.specs.{Damage.{undamaged}, State.{counted}}
+use Rattle.rm_machine.proofs.hand.files_in_place.Given as goal
 
 abbrev pub invariant-loop-index : goal.invariant-loop-index
 invariant-loop-index l =

@@ -1,5 +1,6 @@
 use Rattle.std.{specs.Option.{option_copied}, proofs.Common.{◌≡◌, ◌∙◌, ◌-◌, Some, None, sym, ap, length, slice_get}}
-use Rattle.rm_machine.proofs.{LastMarks.{last-none, last-some}, marks.last_marked.Goals as goal}
+use Rattle.rm_machine.proofs.LastMarks.{last-none, last-some}
+use Rattle.rm_machine.proofs.marks.last_marked.Goals as goal
 
 pub returns-in-Some : goal.returns-in-Some
 returns-in-Some c =

@@ -1,6 +1,7 @@
 use Rattle.std.{specs.Prelude.{sum_by}, proofs.Common.{◌≡◌, ◌≤◌, ◌*◌, take}}
 use Rattle.rm_history.specs.World.{blocks_of}
-use Rattle.rm_machine.{specs.State.{world}, proofs.room.blocks_in.Given as goal}
+use Rattle.rm_machine.specs.State.{world}
+use Rattle.rm_machine.proofs.room.blocks_in.Given as goal
 
 abbrev pub invariant-loop-part : goal.invariant-loop-part
 invariant-loop-part l = record {

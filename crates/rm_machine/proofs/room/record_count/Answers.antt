@@ -1,5 +1,6 @@
 use Rattle.std.proofs.Common.{arith}
-use Rattle.rm_machine.{specs.State.{ledger}, proofs.room.record_count.Goals as goal}
+use Rattle.rm_machine.specs.State.{ledger}
+use Rattle.rm_machine.proofs.room.record_count.Goals as goal
 use Rattle.rm_catalog_typed.proofs.Fitted.{many}
 
 pub returns-clause-value : goal.returns-clause-value

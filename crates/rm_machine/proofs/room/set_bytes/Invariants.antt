@@ -1,5 +1,6 @@
 use Rattle.std.{specs.Prelude.{sum_by}, proofs.Common.{◌≡◌, ◌≤◌, ◌*◌, ◌^◌, map, take}}
-use Rattle.rm_machine.{specs.{Marks.{set_bytes}, State.{world}}, proofs.room.set_bytes.Given as goal}
+use Rattle.rm_machine.specs.{Marks.{set_bytes}, State.{world}}
+use Rattle.rm_machine.proofs.room.set_bytes.Given as goal
 
 abbrev pub invariant-loop-set : goal.invariant-loop-set
 invariant-loop-set l = record {

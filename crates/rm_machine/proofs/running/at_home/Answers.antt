@@ -1,5 +1,6 @@
 use Rattle.std.specs.Vec.Iter.{into_iter_items}
-use Rattle.rm_machine.proofs.{Homes.{homing-next}, running.at_home.Goals as goal}
+use Rattle.rm_machine.proofs.Homes.{homing-next}
+use Rattle.rm_machine.proofs.running.at_home.Goals as goal
 
 pub loop-file-preserved-in-Some : goal.loop-file-preserved-in-Some
 loop-file-preserved-in-Some c =

@@ -2,7 +2,8 @@ use Rattle.std.proofs.Common.{◌≡◌, ◌<◌, ◌+◌, List, cond, subst, ge
 use Rattle.rm_history.specs.{Tree.{end_of}, World.{exists}, declared.world.Datafile.{Datafile}}
 use Rattle.rm_track.specs.Bitmaps.{fresh, with_file}
 use Rattle.rm_catalog_typed.specs.Worlds.{world_of}
-use Rattle.rm_machine.proofs.{Tracked.{fresh-next}, tracking.all_tracked.Goals as goal}
+use Rattle.rm_machine.proofs.Tracked.{fresh-next}
+use Rattle.rm_machine.proofs.tracking.all_tracked.Goals as goal
 
 abbrev any : Datafile
 any = record { inc = 0; creation = 0; blocks = 0 }

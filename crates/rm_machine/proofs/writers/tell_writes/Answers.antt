@@ -1,6 +1,7 @@
 use Rattle.std.proofs.Common.{◌+◌, ◌∙◌, ◌++◌, List, ap, drop, map}
 use Rattle.rm_channel.specs.Jobs.{lists}
-use Rattle.rm_machine.{specs.BackupOutcome.{write_lines}, proofs.{ByThread.{told-next}, writers.tell_writes.Goals as goal}}
+use Rattle.rm_machine.{specs.BackupOutcome.{write_lines}, proofs.ByThread.{told-next}}
+use Rattle.rm_machine.proofs.writers.tell_writes.Goals as goal
 use Rattle.rm_report.specs.declared.line.Line.{Line, TheVariants.{ThreadScn}}
 
 pub loop-index-preserved : goal.loop-index-preserved

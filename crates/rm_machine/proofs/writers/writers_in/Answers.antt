@@ -1,6 +1,7 @@
 use Rattle.std.proofs.Common.{◌≡◌, ◌+◌, ◌∙◌, ap, arith, rules}
 use Rattle.rm_channel.specs.Jobs.{lists}
-use Rattle.rm_machine.{specs.Asked.{asked, by_thread}, proofs.{ByThread.{lists-few, lists-next}, writers.writers_in.Goals as goal}}
+use Rattle.rm_machine.{specs.Asked.{asked, by_thread}, proofs.ByThread.{lists-few, lists-next}}
+use Rattle.rm_machine.proofs.writers.writers_in.Goals as goal
 
 pub loop-index-preserved : goal.loop-index-preserved
 loop-index-preserved c =

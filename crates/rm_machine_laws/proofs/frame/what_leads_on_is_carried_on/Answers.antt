@@ -1,4 +1,5 @@
-use Rattle.rm_machine_laws.proofs.{Carried.{carried-on}, Halting.{halts}, frame.what_leads_on_is_carried_on.Goals as goal}
+use Rattle.rm_machine_laws.proofs.{Carried.{carried-on}, Halting.{halts}}
+use Rattle.rm_machine_laws.proofs.frame.what_leads_on_is_carried_on.Goals as goal
 
 pub returns-clause-carries : goal.returns-clause-carries
 returns-clause-carries a c law stays held held' kept kept' o moment lines x t well at handed leads =

@@ -1,4 +1,5 @@
-use Rattle.rm_machine_laws.proofs.{Leading.{leads, stays}, BackingUp.{backup-on, backup-stays}, laws.a_backup_leads_on.Goals as goal}
+use Rattle.rm_machine_laws.proofs.{Leading.{leads, stays}, BackingUp.{backup-on, backup-stays}}
+use Rattle.rm_machine_laws.proofs.laws.a_backup_leads_on.Goals as goal
 use Rattle.rm_lang_statement.specs.declared.command.Command.TheVariants.{Backup}
 
 pub returns-clause-leads : goal.returns-clause-leads

@@ -1,4 +1,5 @@
-use Rattle.rm_machine_laws.proofs.{Cataloguing.{catalog-leads, catalog-stays}, Leading.{stays}, laws.a_catalogue_leads_on.Goals as goal}
+use Rattle.rm_machine_laws.proofs.{Cataloguing.{catalog-leads, catalog-stays}, Leading.{stays}}
+use Rattle.rm_machine_laws.proofs.laws.a_catalogue_leads_on.Goals as goal
 use Rattle.rm_lang_statement.specs.declared.command.Command.TheVariants.{CatalogName}
 
 pub returns-clause-leads : goal.returns-clause-leads

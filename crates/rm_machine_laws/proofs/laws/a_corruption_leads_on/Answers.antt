@@ -1,4 +1,5 @@
-use Rattle.rm_machine_laws.proofs.{Leading.{leads, stays}, Corrupting.{corrupt-on, corrupt-stays}, laws.a_corruption_leads_on.Goals as goal}
+use Rattle.rm_machine_laws.proofs.{Leading.{leads, stays}, Corrupting.{corrupt-on, corrupt-stays}}
+use Rattle.rm_machine_laws.proofs.laws.a_corruption_leads_on.Goals as goal
 use Rattle.rm_lang_statement.specs.declared.command.Command.TheVariants.{Corrupt}
 
 pub returns-clause-leads : goal.returns-clause-leads

@@ -1,4 +1,5 @@
-use Rattle.rm_machine_laws.proofs.{Leading.{leads, stays}, LosingLog.{lose_log-on, lose_log-stays}, laws.a_lost_log_leads_on.Goals as goal}
+use Rattle.rm_machine_laws.proofs.{Leading.{leads, stays}, LosingLog.{lose_log-on, lose_log-stays}}
+use Rattle.rm_machine_laws.proofs.laws.a_lost_log_leads_on.Goals as goal
 use Rattle.rm_lang_statement.specs.declared.command.Command.TheVariants.{LoseLog}
 
 pub returns-clause-leads : goal.returns-clause-leads

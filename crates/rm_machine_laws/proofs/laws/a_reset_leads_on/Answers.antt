@@ -1,4 +1,5 @@
-use Rattle.rm_machine_laws.proofs.{Leading.{leads, stays}, Choosing.{choose-on, choose-stays}, laws.a_reset_leads_on.Goals as goal}
+use Rattle.rm_machine_laws.proofs.{Leading.{leads, stays}, Choosing.{choose-on, choose-stays}}
+use Rattle.rm_machine_laws.proofs.laws.a_reset_leads_on.Goals as goal
 use Rattle.rm_lang_statement.specs.declared.command.Command.TheVariants.{ResetDatabase}
 
 pub returns-clause-leads : goal.returns-clause-leads

@@ -1,4 +1,5 @@
-use Rattle.rm_machine_laws.proofs.{Leading.{leads, stays}, Restoring.{restore-on, restore-stays}, laws.a_restore_leads_on.Goals as goal}
+use Rattle.rm_machine_laws.proofs.{Leading.{leads, stays}, Restoring.{restore-on, restore-stays}}
+use Rattle.rm_machine_laws.proofs.laws.a_restore_leads_on.Goals as goal
 use Rattle.rm_lang_statement.specs.declared.command.Command.TheVariants.{Restore}
 
 pub returns-clause-leads : goal.returns-clause-leads

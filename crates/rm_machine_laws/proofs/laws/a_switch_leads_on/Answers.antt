@@ -1,4 +1,5 @@
-use Rattle.rm_machine_laws.proofs.{Leading.{leads, stays}, Switching.{switch-on, switch-stays}, laws.a_switch_leads_on.Goals as goal}
+use Rattle.rm_machine_laws.proofs.{Leading.{leads, stays}, Switching.{switch-on, switch-stays}}
+use Rattle.rm_machine_laws.proofs.laws.a_switch_leads_on.Goals as goal
 use Rattle.rm_lang_statement.specs.declared.command.Command.TheVariants.{SwitchLogfile}
 
 pub returns-clause-leads : goal.returns-clause-leads

@@ -1,4 +1,5 @@
-use Rattle.rm_machine_laws.proofs.{Leading.{leads, stays}, Writing.{write-on, write-stays}, laws.a_write_leads_on.Goals as goal}
+use Rattle.rm_machine_laws.proofs.{Leading.{leads, stays}, Writing.{write-on, write-stays}}
+use Rattle.rm_machine_laws.proofs.laws.a_write_leads_on.Goals as goal
 use Rattle.rm_lang_statement.specs.declared.command.Command.TheVariants.{Write}
 
 pub returns-clause-leads : goal.returns-clause-leads

@@ -1,5 +1,6 @@
 use Rattle.rm_lang_statement.specs.declared.command.Command.TheVariants.{BackupFrom}
-use Rattle.rm_machine_laws.proofs.{Leading.{leads, stays}, Rolling.{roll-on, roll-stays}, laws.an_increment_leads_on.Goals as goal}
+use Rattle.rm_machine_laws.proofs.{Leading.{leads, stays}, Rolling.{roll-on, roll-stays}}
+use Rattle.rm_machine_laws.proofs.laws.an_increment_leads_on.Goals as goal
 
 pub returns-clause-leads : goal.returns-clause-leads
 returns-clause-leads c scn = leads (BackupFrom scn) (roll-on scn)

@@ -1,4 +1,5 @@
-use Rattle.rm_machine_laws.proofs.{Leading.{leads, stays}, Tracking.{tracking-on, tracking-stays}, laws.tracking_leads_on.Goals as goal}
+use Rattle.rm_machine_laws.proofs.{Leading.{leads, stays}, Tracking.{tracking-on, tracking-stays}}
+use Rattle.rm_machine_laws.proofs.laws.tracking_leads_on.Goals as goal
 use Rattle.rm_lang_statement.specs.declared.command.Command.TheVariants.{Tracking}
 
 pub returns-clause-leads : goal.returns-clause-leads

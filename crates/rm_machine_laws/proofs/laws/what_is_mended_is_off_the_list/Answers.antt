@@ -1,4 +1,5 @@
-use Rattle.rm_machine_laws.proofs.{Repairing.{list-after, none-after}, laws.what_is_mended_is_off_the_list.Goals as goal}
+use Rattle.rm_machine_laws.proofs.Repairing.{list-after, none-after}
+use Rattle.rm_machine_laws.proofs.laws.what_is_mended_is_off_the_list.Goals as goal
 
 pub returns-clause-exact : goal.returns-clause-exact
 returns-clause-exact c form s held lines effect t does = list-after form s held lines effect t does

@@ -1,4 +1,5 @@
-use Rattle.rm_merge.proofs.{Reaching.{merged_high, merged_within}, laws.a_merged_copy_reaches_as_high_as_its_parts.Goals as goal}
+use Rattle.rm_merge.proofs.Reaching.{merged_high, merged_within}
+use Rattle.rm_merge.proofs.laws.a_merged_copy_reaches_as_high_as_its_parts.Goals as goal
 
 pub returns-clause-high : goal.returns-clause-high
 returns-clause-high c = merged_high

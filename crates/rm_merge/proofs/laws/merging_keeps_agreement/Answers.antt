@@ -1,4 +1,5 @@
-use Rattle.rm_merge.proofs.{Merged.{merged_agrees}, laws.merging_keeps_agreement.Goals as goal}
+use Rattle.rm_merge.proofs.Merged.{merged_agrees}
+use Rattle.rm_merge.proofs.laws.merging_keeps_agreement.Goals as goal
 
 pub returns : goal.returns
 returns c = merged_agrees

@@ -1,6 +1,7 @@
 use Rattle.std.proofs.Common.{◌+◌, ◌∙◌, List, Some, [], ap, sym, arith, get_or, set}
 use Rattle.rm_base.specs.declared.block.Row.{Row}
-use Rattle.rm_merge.{specs.Merge.{greater}, proofs.{Places.{merged_none, merged_step}, merging.merged_rows.Goals as goal}}
+use Rattle.rm_merge.{specs.Merge.{greater}, proofs.Places.{merged_none, merged_step}}
+use Rattle.rm_merge.proofs.merging.merged_rows.Goals as goal
 
 pub loop-new-init : goal.loop-new-init
 loop-new-init c = sym (merged_none c.args.copy.items)

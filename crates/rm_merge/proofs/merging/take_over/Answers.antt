@@ -2,7 +2,8 @@ use Rattle.std.proofs.Common.{◌<◌, ◌∙◌, ℕ, List, All, ap, sym, subst
 use Rattle.rm_base.specs.{Numbers.{last_scn}, declared.{block.Row.{Row}, kinds.Kind.TheVariants.{Level0}}}
 use Rattle.rm_history.specs.Artefacts.{high_of}
 use Rattle.rm_piece.{specs.{Rows.{IsWhole}, Valid.{IsPiece}, declared.piece.Piece.{Piece}}, proofs.Whole.{placed}}
-use Rattle.rm_merge.{specs.Merge.{merged_rows}, proofs.{Merged.{merged_valid, versions}, merging.take_over.Goals as goal}}
+use Rattle.rm_merge.{specs.Merge.{merged_rows}, proofs.Merged.{merged_valid, versions}}
+use Rattle.rm_merge.proofs.merging.take_over.Goals as goal
 
 pub merged_rows-rows-requires-clause-whole : goal.merged_rows-rows-requires-clause-whole
 merged_rows-rows-requires-clause-whole c = subst IsWhole (sym c.into_vec.ensures) (placed c.args.copy c.requires.copy c.requires.kind)

@@ -1,5 +1,6 @@
 use Rattle.std.{specs.Prelude.{IsTrue}, proofs.Common.{sym, subst}}
-use Rattle.rm_piece.{specs.Valid.{IsPiece}, proofs.{Fitting.{fits}, reading.piece_of_body.Goals as goal}}
+use Rattle.rm_piece.{specs.Valid.{IsPiece}, proofs.Fitting.{fits}}
+use Rattle.rm_piece.proofs.reading.piece_of_body.Goals as goal
 
 pub returns-then-is_valid-clause-only : goal.returns-then-is_valid-clause-only
 returns-then-is_valid-clause-only c p valid same = c.in-Ok.ensures.only p (fits p valid) same

@@ -1,4 +1,5 @@
-use Rattle.rm_piece.proofs.{Risen.{risen-same, states-same}, rising.risen_rows_stay.Goals as goal}
+use Rattle.rm_piece.proofs.Risen.{risen-same, states-same}
+use Rattle.rm_piece.proofs.rising.risen_rows_stay.Goals as goal
 
 pub returns : goal.returns
 returns c = record { since = risen-same; states = states-same }

@@ -1,8 +1,8 @@
 use Rattle.std.{specs.{List.{flat_map}, Prelude.{IsTrue}}, proofs.Common.{rules, ◌∙◌, ◌++◌, sym, subst, arith, length}}
 use Rattle.rm_piece.{specs.{SetSpelling.{spelled}, Sets.{IsMember}, Spelling.{row_bytes}}, proofs.SetFitting.{member_is}}
 use Rattle.rm_piece.proofs.SetReading.{enough, member-apart, member-found, member-long, rows-told, told}
-use Rattle.rm_piece.proofs.set_reading.take_member.Goals as goal
 use Rattle.rm_piece.proofs.set_reading.take_member.Goals.{then-room-head-via-then-room-head, then-room-head-via-else-room-head+then-rest-count}
+use Rattle.rm_piece.proofs.set_reading.take_member.Goals as goal
 
 pub returns-then-bytes-lt37-clause-only : goal.returns-then-bytes-lt37-clause-only
 returns-then-bytes-lt37-clause-only c m x is fits same =

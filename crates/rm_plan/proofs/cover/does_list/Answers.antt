@@ -1,6 +1,7 @@
 use Rattle.std.proofs.{Common.{◌∙◌, rules}, lemmas.List.Sorted.{answers_always}}
 use Rattle.rm_base.specs.declared.block.Row.{Row}
-use Rattle.rm_plan.proofs.{Listed.{listed}, cover.does_list.Goals as goal}
+use Rattle.rm_plan.proofs.Listed.{listed}
+use Rattle.rm_plan.proofs.cover.does_list.Goals as goal
 
 pub returns : goal.returns
 returns c =

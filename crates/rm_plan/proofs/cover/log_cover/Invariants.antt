@@ -1,6 +1,7 @@
 use Rattle.std.proofs.Common.{◌≡◌, ℕ}
 use Rattle.rm_evidence.specs.Database.{world_of}
-use Rattle.rm_plan.{specs.{Covers.{threads_cover}, Spans.{AreApart, covers}}, proofs.cover.log_cover.Given as goal}
+use Rattle.rm_plan.specs.{Covers.{threads_cover}, Spans.{AreApart, covers}}
+use Rattle.rm_plan.proofs.cover.log_cover.Given as goal
 
 abbrev pub invariant-loop-thread : goal.invariant-loop-thread
 invariant-loop-thread l = record {

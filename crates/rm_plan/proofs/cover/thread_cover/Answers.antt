@@ -1,4 +1,5 @@
-use Rattle.rm_plan.proofs.{Switched.{all-apart, all-late}, cover.thread_cover.Goals as goal}
+use Rattle.rm_plan.proofs.Switched.{all-apart, all-late}
+use Rattle.rm_plan.proofs.cover.thread_cover.Goals as goal
 
 pub idle_spans-requires-clause-scns : goal.idle_spans-requires-clause-scns
 idle_spans-requires-clause-scns c = all-late c.args.catalog.now c.args.all.now c.records.ensures.catalog c.requires.all

@@ -1,5 +1,6 @@
 use Rattle.std.proofs.Common.{◌≡◌, ◌<◌, ℕ, take, fold, length, slice_index_or}
-use Rattle.rm_plan.{specs.Entries.{after_record, no_entry}, proofs.entry.note_log.Given as goal}
+use Rattle.rm_plan.specs.Entries.{after_record, no_entry}
+use Rattle.rm_plan.proofs.entry.note_log.Given as goal
 
 abbrev pub invariant-loop-change : goal.invariant-loop-change
 invariant-loop-change l = record {

@@ -1,5 +1,6 @@
 use Rattle.std.proofs.Common.{◌≡◌, ◌<◌, ℕ, take, length, slice_index_or}
-use Rattle.rm_plan.{specs.Entries.{after_logs, no_entry}, proofs.entry.note_logs.Given as goal}
+use Rattle.rm_plan.specs.Entries.{after_logs, no_entry}
+use Rattle.rm_plan.proofs.entry.note_logs.Given as goal
 
 abbrev pub invariant-loop-log : goal.invariant-loop-log
 invariant-loop-log l = record {

@@ -1,5 +1,6 @@
 use Rattle.std.proofs.Common.{◌≡◌, ◌<◌, ℕ, take, length, slice_index_or}
-use Rattle.rm_plan.{specs.Entries.{after_pieces, no_entry}, proofs.entry.note_pieces.Given as goal}
+use Rattle.rm_plan.specs.Entries.{after_pieces, no_entry}
+use Rattle.rm_plan.proofs.entry.note_pieces.Given as goal
 
 abbrev pub invariant-loop-piece : goal.invariant-loop-piece
 invariant-loop-piece l = record {

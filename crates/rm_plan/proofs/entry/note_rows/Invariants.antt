@@ -1,5 +1,6 @@
 use Rattle.std.proofs.Common.{◌≡◌, ◌<◌, ℕ, take, fold, length, slice_index_or}
-use Rattle.rm_plan.{specs.Entries.{after_row, no_entry}, proofs.entry.note_rows.Given as goal}
+use Rattle.rm_plan.specs.Entries.{after_row, no_entry}
+use Rattle.rm_plan.proofs.entry.note_rows.Given as goal
 
 abbrev pub invariant-loop-row : goal.invariant-loop-row
 invariant-loop-row l = record {

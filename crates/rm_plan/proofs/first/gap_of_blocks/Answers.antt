@@ -1,5 +1,6 @@
 use Rattle.rm_evidence.specs.{Known.{known_of}, Database.{world_of}}
-use Rattle.rm_plan.proofs.{Firsts.{determined_more}, first.gap_of_blocks.Goals as goal}
+use Rattle.rm_plan.proofs.Firsts.{determined_more}
+use Rattle.rm_plan.proofs.first.gap_of_blocks.Goals as goal
 
 pub loop-block-preserved : goal.loop-block-preserved
 loop-block-preserved c =

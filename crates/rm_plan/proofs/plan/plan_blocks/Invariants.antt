@@ -1,6 +1,7 @@
 use Rattle.std.proofs.Common.{take}
 use Rattle.rm_evidence.specs.{Known.{known_of}, Database.{world_of}}
-use Rattle.rm_plan.{specs.Chosen.{AreToldParts}, proofs.plan.plan_blocks.Given as goal}
+use Rattle.rm_plan.specs.Chosen.{AreToldParts}
+use Rattle.rm_plan.proofs.plan.plan_blocks.Given as goal
 
 abbrev pub invariant-loop-block : goal.invariant-loop-block
 invariant-loop-block l = record {

@@ -1,6 +1,7 @@
 use Rattle.std.proofs.Common.{◌++◌, ◌∷◌, [], List, sym, subst, arith}
 use Rattle.rm_plan.specs.{Spans.{AreApart, IsAscending}, declared.span.Span.{Span}}
-use Rattle.rm_plan.proofs.{Spans.{apart_last, apart_more, ascend_last, ascend_more}, span.add_span.Goals as goal}
+use Rattle.rm_plan.proofs.Spans.{apart_last, apart_more, ascend_last, ascend_more}
+use Rattle.rm_plan.proofs.span.add_span.Goals as goal
 
 pub returns-then-span-last-clause-ascending : goal.returns-then-span-last-clause-ascending
 returns-then-span-last-clause-ascending c = λ order. ascend_last c.args.out.now.items c.args.last (record { start = c.args.last.start; end = c.max.result }) order (omega arith)

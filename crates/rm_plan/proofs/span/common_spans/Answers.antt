@@ -1,5 +1,6 @@
 use Rattle.std.proofs.Common.{◌<◌, ◌≤◌, ◌+◌, length, get_or, arith}
-use Rattle.rm_plan.{specs.declared.span.Span.{Span}, proofs.{Spans.{common_step, next_first, next_second}, span.common_spans.Goals as goal}}
+use Rattle.rm_plan.{specs.declared.span.Span.{Span}, proofs.Spans.{common_step, next_first, next_second}}
+use Rattle.rm_plan.proofs.span.common_spans.Goals as goal
 
 abbrev blank : Span
 blank = record { start = 0; end = 0 }

@@ -1,5 +1,6 @@
 use Rattle.std.proofs.Common.{◌≡◌, ◌-◌, ◌+◌, ◌&&◌, ◌||◌, ℕ, drop, length}
-use Rattle.rm_plan.{specs.Spans.{covers}, proofs.span.common_spans.Given as goal}
+use Rattle.rm_plan.specs.Spans.{covers}
+use Rattle.rm_plan.proofs.span.common_spans.Given as goal
 
 -- what both have in common was found, or is in what is left of both
 abbrev pub invariant-loop-a : goal.invariant-loop-a

@@ -1,7 +1,8 @@
 use Rattle.std.proofs.{Common.{◌<◌, ◌+◌, ◌∷◌, sym, subst, get_or, drop, length, arith}, lemmas.List.{drop_more, drop_all}}
 use Rattle.std.proofs.lemmas.List.Sorted.{IsNonDecreasingBy-drop}
 use Rattle.rm_plan.specs.{Spans.{IsFirstOutside, IsAscending}, declared.span.Span.{Span}}
-use Rattle.rm_plan.proofs.{Spans.{outside_front, outside_none, outside_step}, span.first_outside.Goals as goal}
+use Rattle.rm_plan.proofs.Spans.{outside_front, outside_none, outside_step}
+use Rattle.rm_plan.proofs.span.first_outside.Goals as goal
 
 abbrev blank : Span
 blank = record { start = 0; end = 0 }

@@ -1,5 +1,6 @@
 use Rattle.std.proofs.{Common.{rules, sym}, lemmas.List.Sorted.{IsNonDecreasingBy-from_sort_by_key, list_any-IsPermutation}}
-use Rattle.rm_plan.{specs.{Spans.{lies_in}, declared.span.Span.{Span}}, proofs.span.in_order.Goals as goal}
+use Rattle.rm_plan.specs.{Spans.{lies_in}, declared.span.Span.{Span}}
+use Rattle.rm_plan.proofs.span.in_order.Goals as goal
 
 pub returns-clause-same : goal.returns-clause-same
 returns-clause-same c = λ g. sym (list_any-IsPermutation (lies_in g) c.args.spans.items c.sort_unstable_by_key.new.self.items c.sort_unstable_by_key.ensures.permutation)

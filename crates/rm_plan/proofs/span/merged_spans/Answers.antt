@@ -1,5 +1,6 @@
 use Rattle.std.proofs.{Common.{◌<◌, ◌≤◌, ◌||◌, ◌∙◌, Bool, length, get_or, sym, ap, arith}, lemmas.List.Folds.{list_any_more}}
-use Rattle.rm_plan.{specs.{Spans.{lies_in}, declared.span.Span.{Span}}, proofs.{Spans.{start_same}, span.merged_spans.Goals as goal}}
+use Rattle.rm_plan.{specs.{Spans.{lies_in}, declared.span.Span.{Span}}, proofs.Spans.{start_same}}
+use Rattle.rm_plan.proofs.span.merged_spans.Goals as goal
 
 abbrev blank : Span
 blank = record { start = 0; end = 0 }

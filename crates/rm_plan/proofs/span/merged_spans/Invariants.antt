@@ -1,5 +1,6 @@
 use Rattle.std.proofs.Common.{◌≡◌, ◌≤◌, ◌<◌, ◌++◌, ◌∷◌, [], ℕ, take, length, get_or}
-use Rattle.rm_plan.{specs.{Spans.{covers, AreApart, IsAscending}, declared.span.Span.{Span}}, proofs.span.merged_spans.Given as goal}
+use Rattle.rm_plan.specs.{Spans.{covers, AreApart, IsAscending}, declared.span.Span.{Span}}
+use Rattle.rm_plan.proofs.span.merged_spans.Given as goal
 
 abbrev pub invariant-loop-span : goal.invariant-loop-span
 invariant-loop-span l = record {

@@ -1,7 +1,8 @@
 use Rattle.std.proofs.Common.{◌≡◌, List, arith, ap, ◌∙◌}
 use Rattle.rm_history.specs.{Tree.{owner}, declared.tree.Incarnation.{Incarnation}}
 use Rattle.rm_evidence.{specs.Database.{world_of}, proofs.{DatabaseWorlds.{is-sound}, Worlds.{is_world}}}
-use Rattle.rm_plan.proofs.{Determining.{found_below, found_gap, found_told}, survey.tell_block.Goals as goal}
+use Rattle.rm_plan.proofs.Determining.{found_below, found_gap, found_told}
+use Rattle.rm_plan.proofs.survey.tell_block.Goals as goal
 
 pub first_uncovered-requires-clause-below : goal.first_uncovered-requires-clause-below
 first_uncovered-requires-clause-below c =

@@ -1,6 +1,7 @@
 use Rattle.std.{specs.Option.{option_map_or}, proofs.Common.{◌∙◌, sym, ap, Option}}
 use Rattle.rm_history.specs.declared.tree.Incarnation.{Incarnation}
-use Rattle.rm_plan.proofs.{Agreeing.{way_is}, ways.way.Goals as goal}
+use Rattle.rm_plan.proofs.Agreeing.{way_is}
+use Rattle.rm_plan.proofs.ways.way.Goals as goal
 
 pub returns : goal.returns
 returns c =

@@ -1,4 +1,5 @@
-use Rattle.rm_redo.proofs.{Changes.{log-fills, log-grows, log-holds}, log_file.a_log_holds_what_was_appended.Goals as goal}
+use Rattle.rm_redo.proofs.Changes.{log-fills, log-grows, log-holds}
+use Rattle.rm_redo.proofs.log_file.a_log_holds_what_was_appended.Goals as goal
 
 pub returns-clause-more : goal.returns-clause-more
 returns-clause-more c = log-grows

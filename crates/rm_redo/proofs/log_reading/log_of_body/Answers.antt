@@ -1,5 +1,6 @@
 use Rattle.std.{specs.Prelude.{IsTrue}, proofs.Common.{sym, subst}}
-use Rattle.rm_redo.{specs.LogFormat.{IsLogFile}, proofs.{LogFitting.{fits}, log_reading.log_of_body.Goals as goal}}
+use Rattle.rm_redo.{specs.LogFormat.{IsLogFile}, proofs.LogFitting.{fits}}
+use Rattle.rm_redo.proofs.log_reading.log_of_body.Goals as goal
 
 pub returns-then-is_valid_log-clause-only : goal.returns-then-is_valid_log-clause-only
 returns-then-is_valid_log-clause-only c p valid same = c.in-Ok.ensures.only p (fits p valid) same

@@ -1,5 +1,6 @@
 use Rattle.std.{specs.List.{flat_map}, proofs.Common.{◌≡◌, ◌++◌, ◌+◌, ◌*◌, length, All}}
-use Rattle.rm_redo.{specs.{LogFits.{RecordFits}, LogFormat.{record_bytes}}, proofs.log_reading.records_of.Given as goal}
+use Rattle.rm_redo.specs.{LogFits.{RecordFits}, LogFormat.{record_bytes}}
+use Rattle.rm_redo.proofs.log_reading.records_of.Given as goal
 
 abbrev pub invariant-loop : goal.invariant-loop
 invariant-loop l = record {

@@ -1,6 +1,7 @@
 use Rattle.std.proofs.Common.{refl, arith}
 use Rattle.rm_base.proofs.Items.{AllPairs-from_adjacent}
-use Rattle.rm_redo.{specs.Logs.{IsBefore}, proofs.{LogFitting.{before_then}, log_valid.ascend.Goals as goal}}
+use Rattle.rm_redo.{specs.Logs.{IsBefore}, proofs.LogFitting.{before_then}}
+use Rattle.rm_redo.proofs.log_valid.ascend.Goals as goal
 
 pub returns : goal.returns
 returns c = (

@@ -3,7 +3,8 @@ use Rattle.rm_base.specs.declared.block.{BlockId.{BlockId}, Part.{Part}}
 use Rattle.rm_evidence.specs.{Known.{known_of}, Database.{world_of}}
 use Rattle.rm_history.specs.FirstGap.{IsTarget}
 use Rattle.rm_plan.{specs.{Blocks.{AreToldRows}, Chosen.{IsFaultOf, id_of, row_of}}, proofs.Faults.{handed_on}}
-use Rattle.rm_repair.proofs.{Told.{run-is, run-targets}, jobs.add_run.Goals as goal}
+use Rattle.rm_repair.proofs.Told.{run-is, run-targets}
+use Rattle.rm_repair.proofs.jobs.add_run.Goals as goal
 
 pub plan_blocks-requires-clause-there : goal.plan_blocks-requires-clause-there
 plan_blocks-requires-clause-there c =

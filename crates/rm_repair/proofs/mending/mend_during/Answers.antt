@@ -1,5 +1,6 @@
 use Rattle.rm_channel.specs.Jobs.{lists}
-use Rattle.rm_repair.proofs.{Beside.{all-mended}, mending.mend_during.Goals as goal}
+use Rattle.rm_repair.proofs.Beside.{all-mended}
+use Rattle.rm_repair.proofs.mending.mend_during.Goals as goal
 
 pub returns-clause-mended : goal.returns-clause-mended
 returns-clause-mended g c =

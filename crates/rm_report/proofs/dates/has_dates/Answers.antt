@@ -1,6 +1,7 @@
 use Rattle.std.proofs.{Common.{rules, ◌≡◌, ◌∙◌, ◌+◌, ◌++◌, ◌∷◌, [], ap, sym, subst, arith, All, take, length}, Math.Seq.{take-length}}
 use Rattle.std.proofs.lemmas.List.{take_more, Elements.{All-append, All-cons, All-nil}}
-use Rattle.rm_report.{specs.{Reply.{LineHasDate}, declared.line.Line.{Line}}, proofs.dates.has_dates.Goals as goal}
+use Rattle.rm_report.specs.{Reply.{LineHasDate}, declared.line.Line.{Line}}
+use Rattle.rm_report.proofs.dates.has_dates.Goals as goal
 
 pub loop-line-preserved : goal.loop-line-preserved
 loop-line-preserved c =

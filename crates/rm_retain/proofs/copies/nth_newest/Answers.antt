@@ -1,6 +1,7 @@
 use Rattle.std.{specs.Prelude.{IfNone, IfSome}, proofs.Common.{◌≡◌, ◌-◌, ◌<◌, ◌≤◌, ◌⊎◌, ℕ, List, Option, Some, length, slice_get, subst}}
 use Rattle.std.proofs.lemmas.List.Sorted.{length_permutation}
-use Rattle.rm_retain.{specs.declared.copies.Backup.{Backup}, proofs.{ByAge.{nth_of}, Ranks.{rising_from}, copies.nth_newest.Goals as goal}}
+use Rattle.rm_retain.{specs.declared.copies.Backup.{Backup}, proofs.{ByAge.{nth_of}, Ranks.{rising_from}}}
+use Rattle.rm_retain.proofs.copies.nth_newest.Goals as goal
 
 few_of : (n a b : ℕ) (o : Option Backup) → a ≡ b → IfNone o ((n ≡ 0) ⊎ (a < n)) → IfNone o ((n ≡ 0) ⊎ (b < n))
 few_of n a b o same few = subst (λ k. IfNone o ((n ≡ 0) ⊎ (k < n))) same few

@@ -1,5 +1,6 @@
 use Rattle.std.proofs.lemmas.List.Sorted.{IsNonDecreasingBy-from_sort}
-use Rattle.rm_retain.proofs.{Ids.{sorted_ascends}, deciding.in_order.Goals as goal}
+use Rattle.rm_retain.proofs.Ids.{sorted_ascends}
+use Rattle.rm_retain.proofs.deciding.in_order.Goals as goal
 
 pub returns-clause-ascends : goal.returns-clause-ascends
 returns-clause-ascends c = λ apart.

@@ -1,5 +1,6 @@
 use Rattle.std.{specs.declared.result.Result.TheVariants.{Ok, Err}, proofs.lemmas.List.Sorted.{searched}}
-use Rattle.rm_retain.proofs.{Searched.{up_of, found_is, none_is}, deciding.is_chosen.Goals as goal}
+use Rattle.rm_retain.proofs.Searched.{up_of, found_is, none_is}
+use Rattle.rm_retain.proofs.deciding.is_chosen.Goals as goal
 
 pub returns-in-Ok : goal.returns-in-Ok
 returns-in-Ok c =

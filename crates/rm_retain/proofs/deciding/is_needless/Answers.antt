@@ -1,7 +1,8 @@
 use Rattle.std.{specs.List.{list_any}, proofs.Common.{◌∙◌, List, sym, subst, ap}}
 use Rattle.rm_history.specs.declared.tree.Incarnation.{Incarnation}
 use Rattle.rm_retain.specs.{Obsolete.{IsClip}, Needs.{needs_backup}, declared.file_need.FileNeed.{FileNeed}}
-use Rattle.rm_retain.proofs.{Decisions.{needless_is}, deciding.is_needless.Goals as goal}
+use Rattle.rm_retain.proofs.Decisions.{needless_is}
+use Rattle.rm_retain.proofs.deciding.is_needless.Goals as goal
 
 pub returns : goal.returns
 returns c =

@@ -1,4 +1,5 @@
-use Rattle.rm_retain.{specs.Needs.{needed_by}, proofs.{Decisions.{set_is}, deciding.is_obsolete_set.Goals as goal}}
+use Rattle.rm_retain.{specs.Needs.{needed_by}, proofs.Decisions.{set_is}}
+use Rattle.rm_retain.proofs.deciding.is_obsolete_set.Goals as goal
 
 pub returns-then-may_go : goal.returns-then-may_go
 returns-then-may_go c =

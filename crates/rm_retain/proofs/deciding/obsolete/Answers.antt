@@ -1,5 +1,6 @@
 use Rattle.std.proofs.Common.{sym, subst}
-use Rattle.rm_retain.{specs.{Chosen.{Retention}, Catalogued.{IsObsolete}}, proofs.deciding.obsolete.Goals as goal}
+use Rattle.rm_retain.specs.{Chosen.{Retention}, Catalogued.{IsObsolete}}
+use Rattle.rm_retain.proofs.deciding.obsolete.Goals as goal
 
 pub returns-clause-exact : goal.returns-clause-exact
 returns-clause-exact c id =

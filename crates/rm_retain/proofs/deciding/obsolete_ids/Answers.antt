@@ -3,8 +3,9 @@ use Rattle.std.proofs.lemmas.Bool.{both_ways}
 use Rattle.rm_catalog.specs.{Keys.{key_of}, Rules.{IsCatalog}, declared.record.{Record.{Record}, Key.{Key}}}
 use Rattle.rm_evidence.proofs.{Fitting.{item-there}, Runs.{is-apart}}
 use Rattle.rm_retain.specs.{Needs.{needed_by}, Catalogued.{AreObsolete, IsObsoleteRecord}}
-use Rattle.rm_retain.proofs.{Ids.{exactly_taken, exactly_passed, apart_taken}, deciding.obsolete_ids.Goals as goal}
+use Rattle.rm_retain.proofs.Ids.{exactly_taken, exactly_passed, apart_taken}
 use Rattle.rm_retain.proofs.deciding.obsolete_ids.Goals.{then-is_obsolete+in_ok-push, else-is_obsolete}
+use Rattle.rm_retain.proofs.deciding.obsolete_ids.Goals as goal
 
 pub is_obsolete-requires-clause-there : goal.is_obsolete-requires-clause-there
 is_obsolete-requires-clause-there c =

@@ -1,5 +1,6 @@
 use Rattle.std.proofs.Common.{◌≢◌, take, AllPairs}
-use Rattle.rm_retain.{specs.{Needs.{needed_by}, Catalogued.{AreObsolete}}, proofs.deciding.obsolete_ids.Given as goal}
+use Rattle.rm_retain.specs.{Needs.{needed_by}, Catalogued.{AreObsolete}}
+use Rattle.rm_retain.proofs.deciding.obsolete_ids.Given as goal
 
 abbrev pub invariant-loop-row : goal.invariant-loop-row
 invariant-loop-row l = record {

@@ -1,4 +1,5 @@
-use Rattle.rm_retain.proofs.{SecondTime.{floor_stays, chosen_stays, backup_again, log_again}, laws.nothing_goes_twice.Goals as goal}
+use Rattle.rm_retain.proofs.SecondTime.{floor_stays, chosen_stays, backup_again, log_again}
+use Rattle.rm_retain.proofs.laws.nothing_goes_twice.Goals as goal
 
 pub returns-clause-floor : goal.returns-clause-floor
 returns-clause-floor c r left f are path = floor_stays r left f are path

@@ -5,7 +5,8 @@ use Rattle.rm_evidence.{specs.{Known.{known_of}, Database.{world_of}, declared.e
 use Rattle.rm_evidence.proofs.Worlds.{is_world}
 use Rattle.rm_history.specs.{History.{IsHistory}, Evidence.{Agrees}}
 use Rattle.rm_retain.{specs.{Catalogued.{by_records}, Losing.{FitsHistory}}, proofs.Clearing.{gathered_left}}
-use Rattle.rm_retain.proofs.{Safe.{safe_told, safe_recoverable}, WholeCopies.{copies_whole}, laws.safe_deletion.Goals as goal}
+use Rattle.rm_retain.proofs.{Safe.{safe_told, safe_recoverable}, WholeCopies.{copies_whole}}
+use Rattle.rm_retain.proofs.laws.safe_deletion.Goals as goal
 
 fits_history : (h : List Change) (rs : List Record) (old : Evidence) (days start : ℕ) → IsCatalog rs → HasDatabase rs → IsHistory (world_of rs) h → Agrees (world_of rs) h (known_of old) → FitsHistory h (by_records rs old (Window days) start) (known_of old)
 fits_history h rs old days start catalog database history agrees =

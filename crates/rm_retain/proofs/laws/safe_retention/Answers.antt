@@ -1,4 +1,5 @@
-use Rattle.rm_retain.proofs.{Safe.{safe_told, safe_recoverable}, laws.safe_retention.Goals as goal}
+use Rattle.rm_retain.proofs.Safe.{safe_told, safe_recoverable}
+use Rattle.rm_retain.proofs.laws.safe_retention.Goals as goal
 
 pub returns-clause-told : goal.returns-clause-told
 returns-clause-told c h r old new days i s f b v x policy is left target block told =

@@ -1,6 +1,7 @@
 use Rattle.rm_catalog.specs.Trees.{nodes}
 use Rattle.rm_evidence.{specs.Database.{current_in}, proofs.{Current.{current_is}, DatabaseWorlds.{branch_within, is-tree}}}
-use Rattle.rm_retain.proofs.{Targets.{target_of}, laws.targets_are_of_their_owners.Goals as goal}
+use Rattle.rm_retain.proofs.Targets.{target_of}
+use Rattle.rm_retain.proofs.laws.targets_are_of_their_owners.Goals as goal
 
 pub returns : goal.returns
 returns c rs e policy start i s catalog database low target =

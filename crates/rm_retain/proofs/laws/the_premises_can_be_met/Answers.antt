@@ -1,4 +1,5 @@
-use Rattle.rm_retain.proofs.{Example.{fits_second, loses, in_window, block_is, told_second}, laws.the_premises_can_be_met.Goals as goal}
+use Rattle.rm_retain.proofs.Example.{fits_second, loses, in_window, block_is, told_second}
+use Rattle.rm_retain.proofs.laws.the_premises_can_be_met.Goals as goal
 
 pub returns-clause-fits : goal.returns-clause-fits
 returns-clause-fits _ = fits_second

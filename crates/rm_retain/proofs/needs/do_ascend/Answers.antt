@@ -2,7 +2,8 @@ use Rattle.std.proofs.Common.{rules, ◌≡◌, ◌+◌, ◌∙◌, nat_lt, ℕ,
 use Rattle.std.proofs.lemmas.Bool.{false≢true}
 use Rattle.rm_piece.specs.declared.piece.Piece.{Piece}
 use Rattle.rm_retain.{specs.{Catalogued.{backup_of}, Chosen.{Ascend}}, proofs.Taking.{copies_of, falls, passed, taken, is_behind, AscendTo}}
-use Rattle.rm_retain.proofs.needs.do_ascend.{Goals as goal, Goals.{then-has_record+else-not-is_behind, else-has_record}}
+use Rattle.rm_retain.proofs.needs.do_ascend.Goals.{then-has_record+else-not-is_behind, else-has_record}
+use Rattle.rm_retain.proofs.needs.do_ascend.Goals as goal
 
 pub loop-piece-preserved : goal.loop-piece-preserved
 loop-piece-preserved c =

@@ -2,7 +2,8 @@ use Rattle.std.specs.Prelude.{IfSome, IfNone}
 use Rattle.std.proofs.Common.{◌≡◌, ◌∙◌, ◌+◌, ◌∷◌, ◌++◌, [], List, Option, Vec, Global, sym, subst, ap, arith}
 use Rattle.rm_retain.specs.{Obsolete.{IsOnPath}, Catalogued.{on_copies}, Needs.{IsFileNeed, AreFileNeeds, HaveFileNeeds}}
 use Rattle.rm_retain.{specs.declared.file_need.FileNeed.{FileNeed}, proofs.Needed.{more_sound, more_complete, none_complete}}
-use Rattle.rm_retain.proofs.needs.file_needs.{Goals as goal, Goals.{in-Some+in_ok-push, in_default}}
+use Rattle.rm_retain.proofs.needs.file_needs.Goals.{in-Some+in_ok-push, in_default}
+use Rattle.rm_retain.proofs.needs.file_needs.Goals as goal
 
 pub loop-file-preserved : goal.loop-file-preserved
 loop-file-preserved c =

@@ -1,4 +1,5 @@
-use Rattle.rm_retain.{specs.{Catalogued.{on_copies}, Needs.{AreFileNeeds, HaveFileNeeds}}, proofs.needs.file_needs.Given as goal}
+use Rattle.rm_retain.specs.{Catalogued.{on_copies}, Needs.{AreFileNeeds, HaveFileNeeds}}
+use Rattle.rm_retain.proofs.needs.file_needs.Given as goal
 
 abbrev pub invariant-loop-file : goal.invariant-loop-file
 invariant-loop-file l = record {

@@ -1,6 +1,7 @@
 use Rattle.std.proofs.Common.{List, subst, refl}
 use Rattle.rm_retain.specs.{Catalogued.{on_copies}, Needs.{AreFileNeeds, HaveFileNeeds}, declared.copies.Backup.{Backup}}
-use Rattle.rm_retain.proofs.{Needed.{all_complete}, needs.needs_of.Goals as goal}
+use Rattle.rm_retain.proofs.Needed.{all_complete}
+use Rattle.rm_retain.proofs.needs.needs_of.Goals as goal
 
 pub returns-clause-are : goal.returns-clause-are
 returns-clause-are c =

@@ -1,6 +1,7 @@
 use Rattle.std.{specs.Option.{option_copied}, proofs.{Common.{◌≡◌, ◌∙◌, Some, ap, sym}, lemmas.Option.{IfSome_then}}}
 use Rattle.rm_machine.specs.Saved.{file_part}
-use Rattle.rm_session.proofs.{Goods.{good-file}, files.good_piece.Goals as goal}
+use Rattle.rm_session.proofs.Goods.{good-file}
+use Rattle.rm_session.proofs.files.good_piece.Goals as goal
 
 pub returns-clause-told : goal.returns-clause-told
 returns-clause-told g c =

@@ -1,5 +1,6 @@
 use Rattle.std.specs.Prelude.{◌≡◌, ◌≤◌, IfSome, length}
-use Rattle.rm_session.{specs.Fit.{AllAt, FitsAt, IsLoadedAt}, proofs.files.load_files.Given as goal}
+use Rattle.rm_session.specs.Fit.{AllAt, FitsAt, IsLoadedAt}
+use Rattle.rm_session.proofs.files.load_files.Given as goal
 
 abbrev pub invariant-loop-index : goal.invariant-loop-index
 invariant-loop-index g l = record {

@@ -1,4 +1,5 @@
-use Rattle.rm_session.proofs.{Waking.{waking-sound}, laws.what_is_loaded_fits_the_history.Goals as goal}
+use Rattle.rm_session.proofs.Waking.{waking-sound}
+use Rattle.rm_session.proofs.laws.what_is_loaded_fits_the_history.Goals as goal
 
 pub returns : goal.returns
 returns c = waking-sound

@@ -1,6 +1,7 @@
 use Rattle.std.proofs.lemmas.Option.{IfSome_then}
 use Rattle.rm_machine.specs.declared.state.State.{State}
-use Rattle.rm_session.proofs.{Loads.{loaded-by, sound-by, stand-by}, loading.load_place.Goals as goal}
+use Rattle.rm_session.proofs.Loads.{loaded-by, sound-by, stand-by}
+use Rattle.rm_session.proofs.loading.load_place.Goals as goal
 
 pub point_of-point-requires-clause-sound : goal.point_of-point-requires-clause-sound
 point_of-point-requires-clause-sound g c =

@@ -4,8 +4,9 @@ use Rattle.std.proofs.lemmas.{Bool.{false≢true}, Option.{slice_get-get_or, sli
 use Rattle.rm_blocks.specs.File.{File}
 use Rattle.rm_history.specs.declared.world.Datafile.{Datafile}
 use Rattle.rm_machine.specs.State.{ledger}
-use Rattle.rm_session.proofs.{Standing.{stand-more, standing, stands}, point.all_stand.Goals as goal}
+use Rattle.rm_session.proofs.Standing.{stand-more, standing, stands}
 use Rattle.rm_session.proofs.point.all_stand.Goals.{else-exists-via-then-exists+else-not-stands_at, else-exists-via-else-exists}
+use Rattle.rm_session.proofs.point.all_stand.Goals as goal
 
 abbrev any : Datafile
 any = record { inc = 0; creation = 0; blocks = 0 }

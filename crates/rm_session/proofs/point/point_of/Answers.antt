@@ -2,7 +2,8 @@ use Rattle.std.proofs.Common.{◌≡◌, ◌∙◌, Option, Some, IfSome, true, 
 use Rattle.rm_catalog.specs.declared.record.HeadEntry.{HeadEntry}
 use Rattle.rm_machine.specs.{Sound.{IsSound}, declared.state.State.{State}}
 use Rattle.rm_catalog_typed.specs.TypedCatalog.{Saved}
-use Rattle.rm_session.{specs.Fit.{StandNow, with_point}, proofs.{Standing.{sound-mounted, sound-without}, point.point_of.Goals as goal}}
+use Rattle.rm_session.{specs.Fit.{StandNow, with_point}, proofs.Standing.{sound-mounted, sound-without}}
+use Rattle.rm_session.proofs.point.point_of.Goals as goal
 
 stand-by : (s : State) (o : Option Saved) (site : Saved) → Some site ≡ o → IfSome o (λ site. site.head.opened ≡ true → StandNow s) → site.head.opened ≡ true → StandNow s
 stand-by s o site is stand = subst (λ o. IfSome o (λ site. site.head.opened ≡ true → StandNow s)) (sym is) stand

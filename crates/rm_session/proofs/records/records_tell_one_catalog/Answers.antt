@@ -1,4 +1,5 @@
-use Rattle.rm_session.proofs.{Recorded.{one-catalog}, records.records_tell_one_catalog.Goals as goal}
+use Rattle.rm_session.proofs.Recorded.{one-catalog}
+use Rattle.rm_session.proofs.records.records_tell_one_catalog.Goals as goal
 
 pub returns : goal.returns
 returns a x y same = one-catalog x y same

@@ -1,4 +1,5 @@
-use Rattle.rm_session.proofs.{Resting.{rests}, saved_laws.what_is_saved_rests.Goals as goal}
+use Rattle.rm_session.proofs.Resting.{rests}
+use Rattle.rm_session.proofs.saved_laws.what_is_saved_rests.Goals as goal
 
 pub returns : goal.returns
 returns c = rests

@@ -2,7 +2,8 @@ use Rattle.std.proofs.Common.{◌≡◌, ◌∙◌, ap, sym, subst}
 use Rattle.rm_catalog.specs.declared.record.BaseEntry.{BaseEntry}
 use Rattle.rm_catalog_typed.specs.{Changes.{with_base, with_saved}, Facts.{IsSaved}, Fitting.{FitsBase}, TypedCatalog.{TypedCatalog}}
 use Rattle.rm_machine.specs.{Saving.{saved_of}, declared.state.State.{State}}
-use Rattle.rm_session.proofs.{Sites.{base-drawn, base-is, objects-is, site-fits, site-is, with_ids_drawn}, saving.put_all.Goals as goal}
+use Rattle.rm_session.proofs.Sites.{base-drawn, base-is, objects-is, site-fits, site-is, with_ids_drawn}
+use Rattle.rm_session.proofs.saving.put_all.Goals as goal
 
 pub set_base-requires : goal.set_base-requires
 set_base-requires c =

@@ -2,7 +2,8 @@ use Rattle.std.proofs.Common.{◌≡◌, ◌<◌, ◌∙◌, List, Option, Some,
 use Rattle.std.proofs.lemmas.Option.{slice_get-get_or}
 use Rattle.rm_blocks.specs.File.{File}
 use Rattle.rm_machine.specs.declared.state.State.{State}
-use Rattle.rm_session.proofs.{PartsOf.{file-valid}, site_parts.add_files.Goals as goal}
+use Rattle.rm_session.proofs.PartsOf.{file-valid}
+use Rattle.rm_session.proofs.site_parts.add_files.Goals as goal
 
 pub add_file-requires-clause-valid : goal.add_file-requires-clause-valid
 add_file-requires-clause-valid c =

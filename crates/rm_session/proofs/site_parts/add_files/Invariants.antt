@@ -1,6 +1,7 @@
 use Rattle.std.proofs.Common.{◌≡◌, ◌≤◌, ◌+◌, drop}
 use Rattle.rm_machine.specs.Saving.{file_parts}
-use Rattle.rm_session.{specs.Adding.{with_parts}, proofs.site_parts.add_files.Given as goal}
+use Rattle.rm_session.specs.Adding.{with_parts}
+use Rattle.rm_session.proofs.site_parts.add_files.Given as goal
 
 abbrev pub invariant-loop-index : goal.invariant-loop-index
 invariant-loop-index l = record {

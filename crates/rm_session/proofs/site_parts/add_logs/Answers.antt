@@ -1,6 +1,7 @@
 use Rattle.std.proofs.Common.{◌≤◌, ◌∙◌, length, sym, arith}
 use Rattle.rm_machine.specs.declared.state.State.{State}
-use Rattle.rm_session.proofs.{Adding.{logs-last, logs-next}, site_parts.add_logs.Goals as goal}
+use Rattle.rm_session.proofs.Adding.{logs-last, logs-next}
+use Rattle.rm_session.proofs.site_parts.add_logs.Goals as goal
 
 pub loop-thread-preserved : goal.loop-thread-preserved
 loop-thread-preserved c =

@@ -1,6 +1,7 @@
 use Rattle.std.proofs.Common.{◌≡◌, ◌≤◌, ◌+◌, ◌-◌, drop}
 use Rattle.rm_machine.specs.Saving.{log_parts}
-use Rattle.rm_session.{specs.Adding.{with_parts}, proofs.site_parts.add_logs.Given as goal}
+use Rattle.rm_session.specs.Adding.{with_parts}
+use Rattle.rm_session.proofs.site_parts.add_logs.Given as goal
 
 abbrev pub invariant-loop-thread : goal.invariant-loop-thread
 invariant-loop-thread l = record {

@@ -1,6 +1,7 @@
 use Rattle.std.proofs.Common.{◌∙◌, ap, sym}
 use Rattle.rm_machine.specs.{Saving.{file_parts, log_parts}, State.{ledger}, declared.state.State.{State}}
-use Rattle.rm_session.{specs.Adding.{no_parts, with_parts}, proofs.{Adding.{parts-none, parts-then}, site_parts.parts_of.Goals as goal}}
+use Rattle.rm_session.{specs.Adding.{no_parts, with_parts}, proofs.Adding.{parts-none, parts-then}}
+use Rattle.rm_session.proofs.site_parts.parts_of.Goals as goal
 
 pub returns : goal.returns
 returns c =

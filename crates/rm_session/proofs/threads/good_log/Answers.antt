@@ -1,6 +1,7 @@
 use Rattle.std.{specs.Option.{option_copied}, proofs.{Common.{◌≡◌, ◌∙◌, Some, ap, sym}, lemmas.Option.{IfSome_then}}}
 use Rattle.rm_machine.specs.Saved.{thread_part}
-use Rattle.rm_session.proofs.{Goods.{good-log}, threads.good_log.Goals as goal}
+use Rattle.rm_session.proofs.Goods.{good-log}
+use Rattle.rm_session.proofs.threads.good_log.Goals as goal
 
 pub returns-clause-told : goal.returns-clause-told
 returns-clause-told g c =

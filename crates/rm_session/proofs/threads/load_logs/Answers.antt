@@ -1,5 +1,6 @@
 use Rattle.std.proofs.{Common.{◌∙◌, [], ◌∷◌, ap, arith, length}, lemmas.List.{length-append}}
-use Rattle.rm_session.{specs.Fit.{IsLogAt, LogFitsAt}, proofs.{Places.{fits-more, told-more}, threads.load_logs.Goals as goal}}
+use Rattle.rm_session.{specs.Fit.{IsLogAt, LogFitsAt}, proofs.Places.{fits-more, told-more}}
+use Rattle.rm_session.proofs.threads.load_logs.Goals as goal
 
 pub loop-index-preserved : goal.loop-index-preserved
 loop-index-preserved g c =

@@ -1,5 +1,6 @@
 use Rattle.std.specs.Prelude.{◌≡◌, ◌≤◌, IfSome, length}
-use Rattle.rm_session.{specs.Fit.{AllAt, IsLogAt, LogFitsAt}, proofs.threads.load_logs.Given as goal}
+use Rattle.rm_session.specs.Fit.{AllAt, IsLogAt, LogFitsAt}
+use Rattle.rm_session.proofs.threads.load_logs.Given as goal
 
 abbrev pub invariant-loop-index : goal.invariant-loop-index
 invariant-loop-index g l = record {

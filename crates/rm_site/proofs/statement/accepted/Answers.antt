@@ -1,5 +1,6 @@
 use Rattle.std.proofs.Common.{◌∙◌, sym}
-use Rattle.rm_site.proofs.{Accepted.{it-changes}, statement.accepted.Goals as goal}
+use Rattle.rm_site.proofs.Accepted.{it-changes}
+use Rattle.rm_site.proofs.statement.accepted.Goals as goal
 
 pub returns-in_ok-change-in-Changes-clause-answer : goal.returns-in_ok-change-in-Changes-clause-answer
 returns-in_ok-change-in-Changes-clause-answer g c =

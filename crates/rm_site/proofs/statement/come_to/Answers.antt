@@ -1,5 +1,6 @@
 use Rattle.std.proofs.Common.{◌∙◌, sym}
-use Rattle.rm_site.proofs.{DatedRefusals.{refusal-dated}, statement.come_to.Goals as goal}
+use Rattle.rm_site.proofs.DatedRefusals.{refusal-dated}
+use Rattle.rm_site.proofs.statement.come_to.Goals as goal
 
 pub returns-in-Some-clause-dates : goal.returns-in-Some-clause-dates
 returns-in-Some-clause-dates g c =

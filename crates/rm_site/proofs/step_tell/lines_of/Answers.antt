@@ -3,7 +3,8 @@ use Rattle.rm_base.specs.Store.{Held}
 use Rattle.rm_machine.specs.Hands.{Tells}
 use Rattle.rm_report.specs.{Reply.{IsPlain}, declared.line.Line.{Line}}
 use Rattle.rm_lang_statement.specs.declared.command.Command.{Command, TheVariants.{Dump, ListIncarnation}}
-use Rattle.rm_site.proofs.{Accepted.{nothing}, DatedLines.{dump-dated, list-dated}, step_tell.lines_of.Goals as goal}
+use Rattle.rm_site.proofs.{Accepted.{nothing}, DatedLines.{dump-dated, list-dated}}
+use Rattle.rm_site.proofs.step_tell.lines_of.Goals as goal
 
 pub returns-in-Dump-clause-tells : goal.returns-in-Dump-clause-tells
 returns-in-Dump-clause-tells c =

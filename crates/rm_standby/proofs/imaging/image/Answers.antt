@@ -1,6 +1,7 @@
 use Rattle.std.proofs.{Common.{◌∙◌, subst}, lemmas.List.{take_all}}
 use Rattle.rm_piece.specs.Sets.{IsSet}
-use Rattle.rm_standby.{specs.Standby.{HoldsStates}, proofs.{Imaged.{image-holds, image-is, image-valid}, imaging.image.Goals as goal}}
+use Rattle.rm_standby.{specs.Standby.{HoldsStates}, proofs.Imaged.{image-holds, image-is, image-valid}}
+use Rattle.rm_standby.proofs.imaging.image.Goals as goal
 
 pub returns-clause-valid : goal.returns-clause-valid
 returns-clause-valid c =

@@ -1,6 +1,7 @@
 use Rattle.std.proofs.Common.{◌∙◌, ◌<◌, List, All, subst, sym}
 use Rattle.rm_base.specs.{Numbers.{last_scn}, declared.block.Row.{Row}}
-use Rattle.rm_standby.proofs.{Imaged.{versions-risen}, imaging.imaged_member.Goals as goal}
+use Rattle.rm_standby.proofs.Imaged.{versions-risen}
+use Rattle.rm_standby.proofs.imaging.imaged_member.Goals as goal
 
 pub high_of-requires : goal.high_of-requires
 high_of-requires c =

@@ -1,4 +1,5 @@
-use Rattle.rm_standby_laws.proofs.{Standing.{increment-put}, laws.an_increment_is_put.Goals as goal}
+use Rattle.rm_standby_laws.proofs.Standing.{increment-put}
+use Rattle.rm_standby_laws.proofs.laws.an_increment_is_put.Goals as goal
 
 pub returns : goal.returns
 returns c = increment-put

@@ -1,4 +1,5 @@
-use Rattle.rm_standby_laws.proofs.{Lasting.{ended-held, left-held, wakes-held}, laws.what_a_set_holds_rests.Goals as goal}
+use Rattle.rm_standby_laws.proofs.Lasting.{ended-held, left-held, wakes-held}
+use Rattle.rm_standby_laws.proofs.laws.what_a_set_holds_rests.Goals as goal
 
 pub returns-clause-ends : goal.returns-clause-ends
 returns-clause-ends c m r applied pick a = ended-held pick a m r applied

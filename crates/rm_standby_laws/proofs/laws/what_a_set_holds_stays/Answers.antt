@@ -1,4 +1,5 @@
-use Rattle.rm_standby_laws.proofs.{Lasting.{stays-since, stays-whole}, laws.what_a_set_holds_stays.Goals as goal}
+use Rattle.rm_standby_laws.proofs.Lasting.{stays-since, stays-whole}
+use Rattle.rm_standby_laws.proofs.laws.what_a_set_holds_stays.Goals as goal
 
 pub returns-clause-states : goal.returns-clause-states
 returns-clause-states c = stays-whole

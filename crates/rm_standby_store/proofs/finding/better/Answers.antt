@@ -1,7 +1,8 @@
 use Rattle.std.proofs.{Common.{◌∙◌, ◌≡◌, Option, true, subst, sym}, lemmas.Option.{IfSome_then}}
 use Rattle.rm_piece.specs.declared.set.Set.{Set}
 use Rattle.rm_standby_store.specs.Names.{IsBelow, SpellsSet}
-use Rattle.rm_standby_store.proofs.{Found.{no-number, not-above, no-set, other-set, found-above, whatever}, finding.better.Goals as goal}
+use Rattle.rm_standby_store.proofs.Found.{no-number, not-above, no-set, other-set, found-above, whatever}
+use Rattle.rm_standby_store.proofs.finding.better.Goals as goal
 
 pub returns-in_default-clause-among : goal.returns-in_default-clause-among
 returns-in_default-clause-among g c =

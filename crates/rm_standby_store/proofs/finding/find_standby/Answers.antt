@@ -1,6 +1,7 @@
 use Rattle.std.{specs.Prelude.{IfSome, List, ℕ}, proofs.{Common.{◌∙◌, arith, subst, sym}, lemmas.List.{take_all}}}
 use Rattle.rm_base.specs.Store.{AreTheNames}
-use Rattle.rm_standby_store.proofs.{Found.{all-told, one-more}, finding.find_standby.Goals as goal}
+use Rattle.rm_standby_store.proofs.Found.{all-told, one-more}
+use Rattle.rm_standby_store.proofs.finding.find_standby.Goals as goal
 
 pub loop-name-preserved : goal.loop-name-preserved
 loop-name-preserved g c =

@@ -1,6 +1,7 @@
 use Rattle.std.{specs.Prelude.{IfSome}, proofs.Common.{◌≡◌, ◌≤◌, take}}
 use Rattle.rm_piece.specs.Sets.{IsSet}
-use Rattle.rm_standby_store.{specs.Names.{IsAmong}, proofs.finding.find_standby.Given as goal}
+use Rattle.rm_standby_store.specs.Names.{IsAmong}
+use Rattle.rm_standby_store.proofs.finding.find_standby.Given as goal
 
 abbrev pub invariant-loop-name : goal.invariant-loop-name
 invariant-loop-name g l = record {

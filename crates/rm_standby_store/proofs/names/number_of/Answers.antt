@@ -1,5 +1,6 @@
 use Rattle.std.proofs.Common.{◌≡◌, ◌∙◌, true, sym}
-use Rattle.rm_standby_store.proofs.{Naming.{number-begins, number-read}, names.number_of.Goals as goal}
+use Rattle.rm_standby_store.proofs.Naming.{number-begins, number-read}
+use Rattle.rm_standby_store.proofs.names.number_of.Goals as goal
 
 pub returns : goal.returns
 returns c k =

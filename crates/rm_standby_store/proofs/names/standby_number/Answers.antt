@@ -1,5 +1,6 @@
 use Rattle.std.proofs.Common.{◌≡◌, ◌↔◌, ◌++◌, ℕ, List, Some, codes, rules, subst, sym}
-use Rattle.rm_standby_store.{specs.Names.{IsNumbered}, proofs.names.standby_number.Goals as goal}
+use Rattle.rm_standby_store.specs.Names.{IsNumbered}
+use Rattle.rm_standby_store.proofs.names.standby_number.Goals as goal
 
 pub returns : goal.returns
 returns c =

@@ -1,6 +1,7 @@
 use Rattle.std.proofs.Common.{None}
 use Rattle.rm_machine.specs.declared.job.Job.{Job}
-use Rattle.rm_step_backup.proofs.{Copying.{copies-next}, asking.copy_jobs.Goals as goal}
+use Rattle.rm_step_backup.proofs.Copying.{copies-next}
+use Rattle.rm_step_backup.proofs.asking.copy_jobs.Goals as goal
 
 abbrev no_job : Job
 no_job = record { file = 0; from = None }

@@ -1,8 +1,9 @@
 use Rattle.std.proofs.Common.{◌≡◌, ◌<◌, ◌+◌, ◌∙◌, List, true, false, ap, sym, subst, length, get_or}
 use Rattle.rm_history.specs.declared.world.Datafile.{Datafile}
 use Rattle.rm_machine.specs.{Backup.{is_taken}, State.{ledger}, declared.state.State.{State}}
-use Rattle.rm_step_backup.proofs.{Taken.{lost-next, no_datafile}, datafiles.lost_taken.Goals as goal}
+use Rattle.rm_step_backup.proofs.Taken.{lost-next, no_datafile}
 use Rattle.rm_step_backup.proofs.datafiles.lost_taken.Goals.{else-is_taken-via-then-is_taken+else-is_lost, else-is_taken-via-else-is_taken}
+use Rattle.rm_step_backup.proofs.datafiles.lost_taken.Goals as goal
 
 pub loop-index-preserved : goal.loop-index-preserved
 loop-index-preserved c =

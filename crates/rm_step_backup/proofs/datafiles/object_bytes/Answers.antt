@@ -1,6 +1,7 @@
 use Rattle.std.proofs.Common.{◌≤◌, IfSome, arith}
 use Rattle.rm_machine.proofs.TakenFiles.{taken-blocks, taken-few}
-use Rattle.rm_step_backup.proofs.{Objects.{objects-few, pieces-bytes, sets-bytes}, datafiles.object_bytes.Goals as goal}
+use Rattle.rm_step_backup.proofs.Objects.{objects-few, pieces-bytes, sets-bytes}
+use Rattle.rm_step_backup.proofs.datafiles.object_bytes.Goals as goal
 
 pub sets_bytes-requires : goal.sets_bytes-requires
 sets_bytes-requires c =

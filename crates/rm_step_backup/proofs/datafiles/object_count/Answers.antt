@@ -1,5 +1,6 @@
 use Rattle.std.proofs.Common.{◌≡◌, ◌≤◌, ◌+◌, ◌/◌, ◌%◌, ◌∙◌, IfSome, arith, min, rules, sym}
-use Rattle.rm_step_backup.proofs.{Objects.{pieces-many, sets-many}, datafiles.object_count.Goals as goal}
+use Rattle.rm_step_backup.proofs.Objects.{pieces-many, sets-many}
+use Rattle.rm_step_backup.proofs.datafiles.object_count.Goals as goal
 
 pub div_ceil-requires : goal.div_ceil-requires
 div_ceil-requires c =

@@ -1,8 +1,8 @@
 use Rattle.std.proofs.Common.{◌≡◌, ◌<◌, ◌≤◌, ◌+◌, ◌∙◌, List, true, false, sym, ap, subst, arith, length, get_or}
 use Rattle.rm_history.specs.declared.world.Datafile.{Datafile}
 use Rattle.rm_machine.specs.{Backup.{is_taken}, State.{ledger}, declared.state.State.{State}}
-use Rattle.rm_step_backup.proofs.{Taken.{blocks-few, blocks-next, no_datafile}, datafiles.taken_blocks.Goals as goal}
-use Rattle.rm_step_backup.proofs.datafiles.taken_blocks.Goals.{then-is_taken, else-is_taken}
+use Rattle.rm_step_backup.proofs.{Taken.{blocks-few, blocks-next, no_datafile}, datafiles.taken_blocks.Goals.{then-is_taken, else-is_taken}}
+use Rattle.rm_step_backup.proofs.datafiles.taken_blocks.Goals as goal
 
 pub loop-index-preserved : goal.loop-index-preserved
 loop-index-preserved c =

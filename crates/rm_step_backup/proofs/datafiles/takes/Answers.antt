@@ -1,7 +1,8 @@
 use Rattle.std.{specs.Option.{option_map_or}, proofs.Common.{◌≡◌, ◌∙◌, Option, ap, false, rules, sym}}
 use Rattle.rm_history.specs.declared.world.Datafile.{Datafile}
 use Rattle.rm_machine.specs.{Backup.{asks_for}, State.{on_path}}
-use Rattle.rm_step_backup.proofs.{Takes.{takes-is}, datafiles.takes.Goals as goal}
+use Rattle.rm_step_backup.proofs.Takes.{takes-is}
+use Rattle.rm_step_backup.proofs.datafiles.takes.Goals as goal
 
 pub returns-in-Some : goal.returns-in-Some
 returns-in-Some c =

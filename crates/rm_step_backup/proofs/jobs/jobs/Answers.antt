@@ -2,7 +2,8 @@ use Rattle.std.{specs.Option.{option_copied}, proofs.Common.{◌≡◌, ◌∙�
 use Rattle.std.proofs.lemmas.Result.{IfOk-weaker}
 use Rattle.rm_catalog.specs.{Rules.{HasDatabase}, declared.record.Record.{Record}}
 use Rattle.rm_machine.specs.Backup.{AreJobs, taken}
-use Rattle.rm_step_backup.{specs.Begins.{AreJobsBy, records_for}, proofs.{Begins.{are-jobs}, jobs.jobs.Goals as goal}}
+use Rattle.rm_step_backup.{specs.Begins.{AreJobsBy, records_for}, proofs.Begins.{are-jobs}}
+use Rattle.rm_step_backup.proofs.jobs.jobs.Goals as goal
 
 pub jobs_by-requires-clause-database : goal.jobs_by-requires-clause-database
 jobs_by-requires-clause-database c = subst (λ (o : Option (List Record)). IfSome o HasDatabase) (sym c.as_ref.ensures.value) c.in_ok-records.ensures.database

@@ -1,4 +1,5 @@
-use Rattle.rm_step_backup.proofs.{LogBackups.{next-fits, next-valid, way-on, way-start}, logs.back_up_all.Goals as goal}
+use Rattle.rm_step_backup.proofs.LogBackups.{next-fits, next-valid, way-on, way-start}
+use Rattle.rm_step_backup.proofs.logs.back_up_all.Goals as goal
 
 pub loop-log-init : goal.loop-log-init
 loop-log-init c = way-start c.args.state.now c.args.logs.now 65536 c.args.edits.now.items c.args.handed.now c.requires.sound c.requires.recorded c.requires.accepted

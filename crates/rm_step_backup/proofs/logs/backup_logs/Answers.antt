@@ -6,7 +6,8 @@ use Rattle.rm_machine.proofs.BackingUpLogs.{room-for}
 use Rattle.rm_redo.specs.declared.log_file.LogFile.{LogFile}
 use Rattle.rm_report.specs.declared.line.Line.{Line}
 use Rattle.rm_step_backup.specs.{Logs.{AreRecorded, IsAll}, declared.looking.Looked.{Looked}}
-use Rattle.rm_step_backup.proofs.{LogBackups.{all-dated, all-short, copies-hands, copies-refused, logs_in}, logs.backup_logs.Goals as goal}
+use Rattle.rm_step_backup.proofs.LogBackups.{all-dated, all-short, copies-hands, copies-refused, logs_in}
+use Rattle.rm_step_backup.proofs.logs.backup_logs.Goals as goal
 
 pub copies_refusal-requires-clause-short : goal.copies_refusal-requires-clause-short
 copies_refusal-requires-clause-short g c =

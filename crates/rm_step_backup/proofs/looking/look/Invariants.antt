@@ -1,6 +1,7 @@
 use Rattle.std.{specs.Prelude.{IfSome}, proofs.Common.{◌≡◌, ◌≤◌, take}}
 use Rattle.rm_machine.specs.State.{ledger}
-use Rattle.rm_step_backup.{specs.Logs.{Adds, AreRecorded}, proofs.{Archived.{nothing}, looking.look.Given as goal}}
+use Rattle.rm_step_backup.{specs.Logs.{Adds, AreRecorded}, proofs.Archived.{nothing}}
+use Rattle.rm_step_backup.proofs.looking.look.Given as goal
 
 abbrev pub invariant-loop-entry : goal.invariant-loop-entry
 invariant-loop-entry g l = record {

@@ -1,5 +1,6 @@
 use Rattle.std.{specs.Vec.Iter.{into_iter_items}, proofs.Common.{◌≡◌, ◌++◌, All, map}}
-use Rattle.rm_step_backup.{specs.Making.{CanMake, made_by}, proofs.making.make_each.Given as goal}
+use Rattle.rm_step_backup.specs.Making.{CanMake, made_by}
+use Rattle.rm_step_backup.proofs.making.make_each.Given as goal
 
 abbrev pub invariant-loop-read : goal.invariant-loop-read
 invariant-loop-read l = record {

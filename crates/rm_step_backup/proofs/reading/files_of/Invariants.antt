@@ -1,6 +1,7 @@
 use Rattle.std.{specs.Vec.Iter.{into_iter_items}, proofs.Common.{◌≡◌, ◌+◌, ◌++◌, drop, length, vec_len}}
 use Rattle.rm_channel.specs.Jobs.{lists}
-use Rattle.rm_step_backup.{specs.Making.{files_of}, proofs.reading.files_of.Given as goal}
+use Rattle.rm_step_backup.specs.Making.{files_of}
+use Rattle.rm_step_backup.proofs.reading.files_of.Given as goal
 
 abbrev pub invariant-loop-rows : goal.invariant-loop-rows
 invariant-loop-rows l = record {

@@ -1,7 +1,8 @@
 use Rattle.std.specs.Vec.Iter.{into_iter_items}
 use Rattle.rm_channel.specs.Jobs.{lists}
 use Rattle.rm_machine.specs.{MadeObjects.{packed}, State.{ledger}}
-use Rattle.rm_step_backup.proofs.{NextMade.{AreLeft}, recording.record_all.Given as goal}
+use Rattle.rm_step_backup.proofs.NextMade.{AreLeft}
+use Rattle.rm_step_backup.proofs.recording.record_all.Given as goal
 
 abbrev pub invariant-loop-made : goal.invariant-loop-made
 invariant-loop-made g l =

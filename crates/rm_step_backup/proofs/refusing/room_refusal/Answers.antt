@@ -1,6 +1,7 @@
 use Rattle.std.proofs.Common.{arith}
 use Rattle.rm_machine.proofs.TakenFiles.{taken-few}
-use Rattle.rm_step_backup.proofs.{Objects.{objects-few}, refusing.room_refusal.Goals as goal}
+use Rattle.rm_step_backup.proofs.Objects.{objects-few}
+use Rattle.rm_step_backup.proofs.refusing.room_refusal.Goals as goal
 
 pub overflow_add-count : goal.overflow_add-count
 overflow_add-count c =

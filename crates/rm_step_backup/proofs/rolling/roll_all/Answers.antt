@@ -1,5 +1,6 @@
 use Rattle.std.proofs.Common.{◌∙◌}
-use Rattle.rm_step_backup.proofs.{Increments.{base-fits, can-stand, files-are, hands, roomy, set-valid}, rolling.roll_all.Goals as goal}
+use Rattle.rm_step_backup.proofs.Increments.{base-fits, can-stand, files-are, hands, roomy, set-valid}
+use Rattle.rm_step_backup.proofs.rolling.roll_all.Goals as goal
 
 pub make-requires-clause-can : goal.make-requires-clause-can
 make-requires-clause-can c =

@@ -1,7 +1,8 @@
 use Rattle.std.proofs.Common.{subst}
 use Rattle.rm_channel.specs.Jobs.{lists}
 use Rattle.rm_live.specs.Parts.{Parts, parts_of}
-use Rattle.rm_step_backup.{specs.Running.{HasGone}, proofs.{Ran.{has-run, has-run-live}, running.run_live.Goals as goal}}
+use Rattle.rm_step_backup.{specs.Running.{HasGone}, proofs.Ran.{has-run, has-run-live}}
+use Rattle.rm_step_backup.proofs.running.run_live.Goals as goal
 
 pub put_back-requires : goal.put_back-requires
 put_back-requires g c =

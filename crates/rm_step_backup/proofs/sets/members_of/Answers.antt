@@ -3,7 +3,8 @@ use Rattle.rm_base.specs.declared.block.Row.{Row}
 use Rattle.rm_piece.specs.{Valid.{IsPiece}, declared.set.SetFile.{SetFile}}
 use Rattle.rm_machine.specs.{MadeSets.{InSet, member_by}, State.{ledger}}
 use Rattle.rm_step_backup.specs.{Making.{member_of}, declared.{making.Told.{Told}, reading.FileRead.{FileRead}}}
-use Rattle.rm_step_backup.proofs.{SetMembers.{made-next, valid-here}, sets.members_of.Goals as goal}
+use Rattle.rm_step_backup.proofs.SetMembers.{made-next, valid-here}
+use Rattle.rm_step_backup.proofs.sets.members_of.Goals as goal
 
 pub member_of-requires : goal.member_of-requires
 member_of-requires c =

@@ -1,6 +1,7 @@
 use Rattle.std.{specs.Vec.Iter.{into_iter_items}, proofs.Common.{map}}
 use Rattle.rm_machine.specs.State.{ledger}
-use Rattle.rm_step_backup.{specs.Making.{member_of}, proofs.{SetMembers.{AreMade}, sets.members_of.Given as goal}}
+use Rattle.rm_step_backup.{specs.Making.{member_of}, proofs.SetMembers.{AreMade}}
+use Rattle.rm_step_backup.proofs.sets.members_of.Given as goal
 
 abbrev pub invariant-loop-file : goal.invariant-loop-file
 invariant-loop-file l =

@@ -1,6 +1,7 @@
 use Rattle.std.proofs.Common.{◌∙◌, ap}
 use Rattle.rm_machine.{specs.declared.state.State.{State}, proofs.BackupMarks.{marked-same}}
-use Rattle.rm_step_backup.{specs.Copying.{StartBelow}, proofs.{Copying.{below-now}, statement.begin.Goals as goal}}
+use Rattle.rm_step_backup.{specs.Copying.{StartBelow}, proofs.Copying.{below-now}}
+use Rattle.rm_step_backup.proofs.statement.begin.Goals as goal
 
 pub switch_all-requires : goal.switch_all-requires
 switch_all-requires c =

@@ -3,7 +3,8 @@ use Rattle.rm_channel.specs.{Jobs.{lists}, Room.{AreThreads, CanWrite, IsThere},
 use Rattle.rm_machine.specs.{Asked.{writes_in}, Events.{opening}, Sound.{IsSound}, Running.{CanFollow}, declared.job.Job.{Job}}
 use Rattle.rm_machine.proofs.{BackupAccepted.{can-back_up}, WritersRoom.{fits-numbers}}
 use Rattle.rm_step_backup.{specs.{Copying.{AreCopiesOf, Stands}, Running.{HasRunLive}}, proofs.Backed.{HasWorked, begun-sound, can-follow}}
-use Rattle.rm_step_backup.proofs.{Room.{begun-stand, begun-threads, begun-writes}, statement.run.Goals as goal}
+use Rattle.rm_step_backup.proofs.Room.{begun-stand, begun-threads, begun-writes}
+use Rattle.rm_step_backup.proofs.statement.run.Goals as goal
 
 pub writers_in-requires : goal.writers_in-requires
 writers_in-requires g c = record { fits = fits-numbers c.args.state.now (writes_in c.args.form.now) c.requires.sound (can-back_up c.args.state.now c.args.form.now c.requires.sound c.requires.accepted).writes }

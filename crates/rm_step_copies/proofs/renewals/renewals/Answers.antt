@@ -2,8 +2,9 @@ use Rattle.std.proofs.Common.{◌≡◌, ◌∙◌, ◌+◌, ◌∷◌, ◌++◌
 use Rattle.rm_backup.specs.{Renewed.{IsRenewed}, declared.renewing.Renewed.{Renewed}}
 use Rattle.rm_machine.specs.RecoverCopy.{HasTaken}
 use Rattle.rm_catalog_typed.specs.TypedCatalog.{records_of}
-use Rattle.rm_step_copies.proofs.{Walked.{AreRenewedBelow, below-all, below-more, below-past, below-start}, renewals.renewals.Goals as goal}
+use Rattle.rm_step_copies.proofs.Walked.{AreRenewedBelow, below-all, below-more, below-past, below-start}
 use Rattle.rm_step_copies.proofs.renewals.renewals.Goals.{in-Some+in_ok-push, in_default}
+use Rattle.rm_step_copies.proofs.renewals.renewals.Goals as goal
 
 pub loop-file-init : goal.loop-file-init
 loop-file-init c =

@@ -1,4 +1,5 @@
-use Rattle.rm_step_copies.proofs.{Ways.{next-put, way-on, way-start}, renewing.renew_all.Goals as goal}
+use Rattle.rm_step_copies.proofs.Ways.{next-put, way-on, way-start}
+use Rattle.rm_step_copies.proofs.renewing.renew_all.Goals as goal
 
 pub loop-copy-init : goal.loop-copy-init
 loop-copy-init c = way-start c.args.state.now c.args.tag.now c.args.copies.now c.args.edits.now.items c.args.handed.now c.requires.sound c.requires.fit c.requires.accepted

@@ -1,6 +1,7 @@
 use Rattle.std.proofs.{Common.{◌∙◌, rules, ℕ, List, ap, filter}, lemmas.Fn.{filter_same}}
 use Rattle.rm_base.specs.declared.kinds.Bad.{Bad}
-use Rattle.rm_step_copies.{specs.Skipped.{is_of_copies}, proofs.skipping.keep_of_copies.Goals as goal}
+use Rattle.rm_step_copies.specs.Skipped.{is_of_copies}
+use Rattle.rm_step_copies.proofs.skipping.keep_of_copies.Goals as goal
 
 pub returns : goal.returns
 returns c =

@@ -2,7 +2,8 @@ use Rattle.std.proofs.{Common.{[], ◌∷◌, ◌∙◌, refl, sym}, lemmas.Opti
 use Rattle.rm_report.specs.declared.line.Line.TheVariants.{BlockDamaged}
 use Rattle.rm_lang_statement.specs.declared.command.Command.TheVariants.{Corrupt}
 use Rattle.rm_machine.{specs.{Corrupt.{corrupted}, Effect.{no_effect}, declared.state.State.{State}}, proofs.Handing.{hands-by}}
-use Rattle.rm_step_host.proofs.{Corrupted.{row-there}, corrupting.corrupt.Goals as goal}
+use Rattle.rm_step_host.proofs.Corrupted.{row-there}
+use Rattle.rm_step_host.proofs.corrupting.corrupt.Goals as goal
 
 pub placed_row-requires : goal.placed_row-requires
 placed_row-requires c = (row-there c.args.state.now c.args.file c.args.block c.requires.sound c.requires.accepted).number.0

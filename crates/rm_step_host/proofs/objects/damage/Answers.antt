@@ -1,6 +1,7 @@
 use Rattle.std.proofs.Common.{◌≡◌, ◌<◌, ◌∙◌, ◌∷◌, [], List, ℕ, Some, IfSome, ap, subst}
 use Rattle.rm_base.specs.Store.{Held}
-use Rattle.rm_step_host.proofs.{Handing.{damage-hands, named}, objects.damage.Goals as goal}
+use Rattle.rm_step_host.proofs.Handing.{damage-hands, named}
+use Rattle.rm_step_host.proofs.objects.damage.Goals as goal
 
 pub returns-clause-hands : goal.returns-clause-hands
 returns-clause-hands g c =

@@ -1,5 +1,6 @@
 use Rattle.std.proofs.Common.{rules, ◌∙◌, ◌++◌, ◌∷◌, [], ℕ, List, ap}
-use Rattle.rm_step_host.proofs.{Handing.{remove-hands, some-there}, objects.remove.Goals as goal}
+use Rattle.rm_step_host.proofs.Handing.{remove-hands, some-there}
+use Rattle.rm_step_host.proofs.objects.remove.Goals as goal
 
 pub returns-clause-hands : goal.returns-clause-hands
 returns-clause-hands g c =

@@ -1,6 +1,7 @@
 use Rattle.std.proofs.Common.{rules, ◌≡◌, ◌∙◌, ◌++◌, ◌∷◌, [], ℕ, List, Option, Some, IfSome, ap, subst}
 use Rattle.rm_base.specs.Store.{Held}
-use Rattle.rm_step_host.proofs.{Handing.{named, none-there, rename-hands}, objects.rename.Goals as goal}
+use Rattle.rm_step_host.proofs.Handing.{named, none-there, rename-hands}
+use Rattle.rm_step_host.proofs.objects.rename.Goals as goal
 
 pub returns-clause-hands : goal.returns-clause-hands
 returns-clause-hands g c =

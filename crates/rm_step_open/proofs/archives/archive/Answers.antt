@@ -3,7 +3,8 @@ use Rattle.rm_catalog.specs.declared.record.LogEntry.{LogEntry}
 use Rattle.rm_redo.specs.LogFile.{log_file_of}
 use Rattle.rm_catalog_typed.specs.Fitting.{FitsNewLog}
 use Rattle.rm_machine.{specs.{State.{ledger, online}, SwitchLogfile.{log_entry}}, proofs.Switching.{entry-is}}
-use Rattle.rm_step_open.proofs.{Spaces.{can-space}, archives.archive.Goals as goal}
+use Rattle.rm_step_open.proofs.Spaces.{can-space}
+use Rattle.rm_step_open.proofs.archives.archive.Goals as goal
 
 pub add_log-requires : goal.add_log-requires
 add_log-requires c =

@@ -1,6 +1,7 @@
 use Rattle.std.proofs.Common.{◌≡◌, ◌+◌, ◌-◌, suc, subst, arith}
 use Rattle.rm_machine.proofs.Archives.{HasRoom}
-use Rattle.rm_step_open.proofs.{Archiving.{goes-first, goes-last, goes-turn}, Spaces.{space-first}, archives.archive_all.Goals as goal}
+use Rattle.rm_step_open.proofs.{Archiving.{goes-first, goes-last, goes-turn}, Spaces.{space-first}}
+use Rattle.rm_step_open.proofs.archives.archive_all.Goals as goal
 
 pub loop-thread-init : goal.loop-thread-init
 loop-thread-init c = goes-first _ _ c.requires.sound c.requires.accepted

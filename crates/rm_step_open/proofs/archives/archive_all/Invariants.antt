@@ -1,5 +1,6 @@
 use Rattle.std.proofs.Common.{◌-◌}
-use Rattle.rm_step_open.proofs.{Archiving.{Goes}, archives.archive_all.Given as goal}
+use Rattle.rm_step_open.proofs.Archiving.{Goes}
+use Rattle.rm_step_open.proofs.archives.archive_all.Given as goal
 
 abbrev pub invariant-loop-thread : goal.invariant-loop-thread
 invariant-loop-thread l =

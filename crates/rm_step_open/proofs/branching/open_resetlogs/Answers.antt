@@ -7,7 +7,8 @@ use Rattle.rm_machine.specs.{Archive.{after_all, archiving, lines_from, puts_fro
 use Rattle.rm_machine.specs.{OpenResetlogs.{branched_off, resetlogs_lines}, State.{tree}, declared.state.State.{State}}
 use Rattle.rm_machine.proofs.{Branching.{after-archiving, can-after, can-reset}, Handing.{hands-by}}
 use Rattle.rm_catalog_typed.specs.Fitting.{HasRoomFor}
-use Rattle.rm_step_open.proofs.{Spaces.{accepted-alone}, branching.open_resetlogs.Goals as goal}
+use Rattle.rm_step_open.proofs.Spaces.{accepted-alone}
+use Rattle.rm_step_open.proofs.branching.open_resetlogs.Goals as goal
 
 pub archive_all-requires-clause-accepted : goal.archive_all-requires-clause-accepted
 archive_all-requires-clause-accepted c =

@@ -1,6 +1,7 @@
 use Rattle.std.proofs.Common.{◌≡◌, ◌∙◌, ◌-◌, sym, ap, true, false, arith}
 use Rattle.rm_machine.specs.Archive.{is_last_sequence}
-use Rattle.rm_step_open.proofs.{Turns.{last-turn}, due.is_last_sequence.Goals as goal}
+use Rattle.rm_step_open.proofs.Turns.{last-turn}
+use Rattle.rm_step_open.proofs.due.is_last_sequence.Goals as goal
 
 pub returns-then-lacks_sequence : goal.returns-then-lacks_sequence
 returns-then-lacks_sequence c =

@@ -1,6 +1,7 @@
 use Rattle.std.proofs.Common.{◌≡◌, ◌-◌, ap, arith}
 use Rattle.rm_machine.specs.Archive.{due_from}
-use Rattle.rm_step_open.proofs.{Turns.{due-turn}, due.logs_due.Goals as goal}
+use Rattle.rm_step_open.proofs.Turns.{due-turn}
+use Rattle.rm_step_open.proofs.due.logs_due.Goals as goal
 
 pub loop-thread-preserved : goal.loop-thread-preserved
 loop-thread-preserved c =

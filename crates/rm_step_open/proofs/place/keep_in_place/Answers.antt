@@ -3,8 +3,9 @@ use Rattle.std.proofs.Math.ListN.{set, length-set}
 use Rattle.rm_blocks.specs.File.{File}
 use Rattle.rm_history.specs.{World.{exists}, declared.world.{Datafile.{Datafile}, World.{World}}}
 use Rattle.rm_machine.specs.{Open.{kept_in_place}, State.{world}}
-use Rattle.rm_step_open.proofs.{Places.{kept-stays, kept-goes}, place.keep_in_place.Goals as goal}
+use Rattle.rm_step_open.proofs.Places.{kept-stays, kept-goes}
 use Rattle.rm_step_open.proofs.place.keep_in_place.Goals.{then-not-exists+in-Some-1, then-not-exists+in-None-1, else-not-exists}
+use Rattle.rm_step_open.proofs.place.keep_in_place.Goals as goal
 
 abbrev any : Datafile
 any = record { inc = 0; creation = 0; blocks = 0 }

@@ -2,7 +2,8 @@ use Rattle.std.proofs.Common.{◌∙◌, ◌++◌, true, List, ap}
 use Rattle.rm_commit.specs.declared.commit.Object.{Object}
 use Rattle.rm_machine.specs.Archive.{lines_from, puts_from}
 use Rattle.rm_report.specs.declared.line.Line.{Line}
-use Rattle.rm_step_open.proofs.{Archiving.{hands_all}, switching.archive_log_current.Goals as goal}
+use Rattle.rm_step_open.proofs.Archiving.{hands_all}
+use Rattle.rm_step_open.proofs.switching.archive_log_current.Goals as goal
 
 pub returns-clause-hands : goal.returns-clause-hands
 returns-clause-hands c =

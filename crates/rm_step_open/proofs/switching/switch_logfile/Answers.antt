@@ -3,7 +3,8 @@ use Rattle.rm_base.proofs.Conditions.{only-where, unless}
 use Rattle.rm_commit.specs.declared.commit.Object.{Object}
 use Rattle.rm_machine.{specs.{Archive.{puts_by, thread_lines}, State.{is_no_thread}}, proofs.Threads.{thread-of}}
 use Rattle.rm_report.specs.declared.line.Line.{Line}
-use Rattle.rm_step_open.proofs.{Archiving.{hands_switch}, switching.switch_logfile.Goals as goal}
+use Rattle.rm_step_open.proofs.Archiving.{hands_switch}
+use Rattle.rm_step_open.proofs.switching.switch_logfile.Goals as goal
 
 pub returns-clause-hands : goal.returns-clause-hands
 returns-clause-hands c =

@@ -7,7 +7,8 @@ use Rattle.rm_catalog_typed.specs.{Fitting.{FitsSwitch}, TypedCatalog.{TypedCata
 use Rattle.rm_machine.specs.{Archive.{puts_by, thread_lines}, DisableThread.{disabled_lines, disabling, switch_off, with_thread_off}}
 use Rattle.rm_machine.specs.{Marks.{lacks_room, marks_before, one_further}, Sound.{IsSound}, State.{now_of}, declared.state.State.{State}}
 use Rattle.rm_machine.proofs.{Disabling.{accepted, after-due, can-archive, can-disable, disabling-fits}, Handing.{hands-by}}
-use Rattle.rm_step_open.proofs.{Disabling.{after-disable, can-close, room-after}, Spaces.{space-can}, threads.disable_thread.Goals as goal}
+use Rattle.rm_step_open.proofs.{Disabling.{after-disable, can-close, room-after}, Spaces.{space-can}}
+use Rattle.rm_step_open.proofs.threads.disable_thread.Goals as goal
 
 pub switch_off-switch-requires-clause-thread : goal.switch_off-switch-requires-clause-thread
 switch_off-switch-requires-clause-thread c = (accepted c.args.state.now c.args.thread c.requires.sound c.requires.accepted).there

@@ -4,7 +4,8 @@ use Rattle.rm_report.specs.declared.line.Line.TheVariants.{ThreadSwitched}
 use Rattle.rm_catalog_typed.specs.{Fitting.{FitsSwitch}, TypedCatalog.{TypedCatalog}, declared.thread_switch.ThreadSwitch.{ThreadSwitch}}
 use Rattle.rm_machine.specs.{Effect.{no_effect}, EnableThread.{switch_on, with_thread_on}, State.{now_of}, declared.state.State.{State}}
 use Rattle.rm_machine.proofs.{Enabling.{enabling-fits}, Handing.{hands-by}}
-use Rattle.rm_step_open.proofs.{Enabling.{after-enable, can-begin}, threads.enable_thread.Goals as goal}
+use Rattle.rm_step_open.proofs.Enabling.{after-enable, can-begin}
+use Rattle.rm_step_open.proofs.threads.enable_thread.Goals as goal
 
 pub add_switch-requires : goal.add_switch-requires
 add_switch-requires c =

@@ -1,5 +1,6 @@
 use Rattle.rm_machine.specs.State.{world}
-use Rattle.rm_step_recover.proofs.{FileLines.{next-file}, lines.push_files.Goals as goal}
+use Rattle.rm_step_recover.proofs.FileLines.{next-file}
+use Rattle.rm_step_recover.proofs.lines.push_files.Goals as goal
 
 pub loop-file-preserved : goal.loop-file-preserved
 loop-file-preserved c =

@@ -1,5 +1,6 @@
 use Rattle.std.{specs.{Iterator.Adapters.{zip_first, zip_second}, Slice.Iter.{iter_rest}}, proofs.lemmas.Slice.Zip.{either_empty_from_Zip}}
-use Rattle.rm_step_recover.proofs.{OriginLines.{all-origins}, lines.push_origins.Goals as goal}
+use Rattle.rm_step_recover.proofs.OriginLines.{all-origins}
+use Rattle.rm_step_recover.proofs.lines.push_origins.Goals as goal
 
 pub returns : goal.returns
 returns c =

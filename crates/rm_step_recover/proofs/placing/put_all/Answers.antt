@@ -1,5 +1,6 @@
 use Rattle.std.{specs.Vec.Iter.{into_iter_items}, proofs.Common.{ap, arith, length}}
-use Rattle.rm_step_recover.proofs.{Over.{over-next, places-next}, placing.put_all.Goals as goal}
+use Rattle.rm_step_recover.proofs.Over.{over-next, places-next}
+use Rattle.rm_step_recover.proofs.placing.put_all.Goals as goal
 
 pub loop-file-preserved-in-Some : goal.loop-file-preserved-in-Some
 loop-file-preserved-in-Some c =

@@ -1,6 +1,7 @@
 use Rattle.std.{specs.Vec.Iter.{into_iter_items, into_iter_len}, proofs.Common.{◌≡◌, All, length}}
 use Rattle.rm_machine.specs.Recovery.{put_over}
-use Rattle.rm_step_recover.{specs.Placing.{HasPlace}, proofs.placing.put_all.Given as goal}
+use Rattle.rm_step_recover.specs.Placing.{HasPlace}
+use Rattle.rm_step_recover.proofs.placing.put_all.Given as goal
 
 abbrev pub invariant-loop-file : goal.invariant-loop-file
 invariant-loop-file l = record {

@@ -6,7 +6,8 @@ use Rattle.rm_history.specs.Tree.{IsThere}
 use Rattle.rm_machine.specs.{Recovery.{in_place, range_refusal, skipped_lines}, Restore.{gap_line, origin_lines}, State.{current_of, tree}}
 use Rattle.rm_catalog_typed.specs.TypedCatalog.{records_of}
 use Rattle.rm_step_recover.proofs.{Dates.{previewed-dated}, Handing.{preview-tells}}
-use Rattle.rm_step_recover.proofs.{Records.{exact-numbers, fits, of-state, preview-within, there, within}, previewing.preview.Goals as goal}
+use Rattle.rm_step_recover.proofs.Records.{exact-numbers, fits, of-state, preview-within, there, within}
+use Rattle.rm_step_recover.proofs.previewing.preview.Goals as goal
 
 pub preview_from-requires-clause-place : goal.preview_from-requires-clause-place
 preview_from-requires-clause-place g c κs within =

@@ -1,4 +1,5 @@
-use Rattle.rm_step_recover.proofs.{Records.{fits, never-outside, there}, recovered_files.recovered_at.Goals as goal}
+use Rattle.rm_step_recover.proofs.Records.{fits, never-outside, there}
+use Rattle.rm_step_recover.proofs.recovered_files.recovered_at.Goals as goal
 
 pub recover_from-requires-clause-place : goal.recover_from-requires-clause-place
 recover_from-requires-clause-place g c κs within =

@@ -3,7 +3,8 @@ use Rattle.rm_apply.specs.Recover.{until_in}
 use Rattle.rm_catalog.specs.declared.record.BaseEntry.{BaseEntry}
 use Rattle.rm_history.specs.Tree.{IsThere}
 use Rattle.rm_machine.specs.{Recovery.{range_refusal}, State.{tree}}
-use Rattle.rm_step_recover.proofs.{Records.{fits, there, within}, restoring.from_backups.Goals as goal}
+use Rattle.rm_step_recover.proofs.Records.{fits, there, within}
+use Rattle.rm_step_recover.proofs.restoring.from_backups.Goals as goal
 
 pub restore_from-requires-clause-place : goal.restore_from-requires-clause-place
 restore_from-requires-clause-place g c κs within =

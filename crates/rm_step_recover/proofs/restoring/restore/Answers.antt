@@ -4,7 +4,8 @@ use Rattle.rm_blocks.specs.File.{File}
 use Rattle.rm_machine.specs.{Recovery.{in_place}, Sound.{IsSound}, State.{current_of}}
 use Rattle.rm_catalog_typed.specs.TypedCatalog.{records_of}
 use Rattle.rm_step_recover.proofs.{Dates.{restored-dated}, Files.{restored-places}, Handing.{restore-hands, restored-lines}}
-use Rattle.rm_step_recover.proofs.{Sound.{restore-sound}, restoring.restore.Goals as goal}
+use Rattle.rm_step_recover.proofs.Sound.{restore-sound}
+use Rattle.rm_step_recover.proofs.restoring.restore.Goals as goal
 
 pub put_in_place-requires : goal.put_in_place-requires
 put_in_place-requires g c =

@@ -1,6 +1,7 @@
 use Rattle.std.proofs.Common.{rules, ◌≡◌, ◌∙◌, Some, arith, not, sym}
 use Rattle.rm_machine.specs.Damage.{has_block}
-use Rattle.rm_step_repair.proofs.{Named.{found-in, named, named-form}, refusing.sound_refusal.Goals as goal}
+use Rattle.rm_step_repair.proofs.Named.{found-in, named, named-form}
+use Rattle.rm_step_repair.proofs.refusing.sound_refusal.Goals as goal
 
 pub overflow_cast-result-2 : goal.overflow_cast-result-2
 overflow_cast-result-2 c =

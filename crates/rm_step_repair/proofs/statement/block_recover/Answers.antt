@@ -5,7 +5,8 @@ use Rattle.rm_machine.{specs.{Recovery.{skipped_lines}, State.{now_of}}, proofs.
 use Rattle.rm_repair.specs.Mended.{HasBlock, IsOlder}
 use Rattle.rm_step_repair.specs.{Gone.{HasRepaired}, Told.{IsTargetNow, mended_line}}
 use Rattle.rm_step_repair.proofs.Handing.{few-told, left-sound, repair-hands, run-older, run-there}
-use Rattle.rm_step_repair.proofs.{Mends.{all-dated, in-place-targets, mended-stand}, statement.block_recover.Goals as goal}
+use Rattle.rm_step_repair.proofs.Mends.{all-dated, in-place-targets, mended-stand}
+use Rattle.rm_step_repair.proofs.statement.block_recover.Goals as goal
 
 pub tell_blocks-requires-clause-there : goal.tell_blocks-requires-clause-there
 tell_blocks-requires-clause-there g c κs within =

@@ -1,6 +1,7 @@
 use Rattle.std.proofs.Common.{ap, refl}
 use Rattle.rm_catalog.specs.declared.record.BaseEntry.{BaseEntry}
-use Rattle.rm_step_repair.proofs.{Gathering.{gap-by, place-fits-records, targets, told-by}, telling.tell_blocks.Goals as goal}
+use Rattle.rm_step_repair.proofs.Gathering.{gap-by, place-fits-records, targets, told-by}
+use Rattle.rm_step_repair.proofs.telling.tell_blocks.Goals as goal
 
 pub gather_by-requires-clause-place : goal.gather_by-requires-clause-place
 gather_by-requires-clause-place g c κs within =

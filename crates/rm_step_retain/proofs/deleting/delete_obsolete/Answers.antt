@@ -3,7 +3,8 @@ use Rattle.rm_report.specs.declared.line.Line.TheVariants.{Deleted, DeletedCount
 use Rattle.rm_lang_statement.specs.declared.command.Command.TheVariants.{DeleteObsolete}
 use Rattle.rm_machine.specs.{Sound.{IsSound}, Upkeep.{names_at, removing, with_catalog, without_all}, declared.handed.Handed.{Handed}}
 use Rattle.rm_machine.{specs.declared.state.State.{State}, proofs.{Handing.{hands-by}, Upkeep.{all-on}}}
-use Rattle.rm_step_retain.proofs.{Dates.{counted-dated}, Obsolete.{told}, deleting.delete_obsolete.Goals as goal}
+use Rattle.rm_step_retain.proofs.{Dates.{counted-dated}, Obsolete.{told}}
+use Rattle.rm_step_retain.proofs.deleting.delete_obsolete.Goals as goal
 
 pub returns-clause-hands : goal.returns-clause-hands
 returns-clause-hands g c =

@@ -1,6 +1,7 @@
 use Rattle.std.proofs.Common.{ap}
 use Rattle.rm_catalog.specs.declared.record.BaseEntry.{BaseEntry}
-use Rattle.rm_step_retain.proofs.{Obsolete.{ids-few, ids-some, obsolete-in}, finding.obsolete_ids.Goals as goal}
+use Rattle.rm_step_retain.proofs.Obsolete.{ids-few, ids-some, obsolete-in}
+use Rattle.rm_step_retain.proofs.finding.obsolete_ids.Goals as goal
 
 pub returns-clause-are : goal.returns-clause-are
 returns-clause-are g c =

@@ -2,7 +2,8 @@ use Rattle.std.proofs.lemmas.Option.{IfSome_then}
 use Rattle.rm_evidence.{specs.Gathered.{IsGathered}, proofs.Seen.{seen-so, seen-told}}
 use Rattle.rm_retain.proofs.CopiesLeft.{gathered_ascend}
 use Rattle.rm_machine.proofs.Fitting.{gathered-hand}
-use Rattle.rm_step_retain.proofs.{Hand.{fits}, looking.look.Goals as goal}
+use Rattle.rm_step_retain.proofs.Hand.{fits}
+use Rattle.rm_step_retain.proofs.looking.look.Goals as goal
 
 pub gather_by-requires-clause-place : goal.gather_by-requires-clause-place
 gather_by-requires-clause-place g c κs within =

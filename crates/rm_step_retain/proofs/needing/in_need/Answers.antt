@@ -3,7 +3,8 @@ use Rattle.std.proofs.lemmas.List.{length-append}
 use Rattle.rm_apply.{specs.Files.{AreExactly}, proofs.Numbers.{Below, all_numbers, one_more, one_past}}
 use Rattle.rm_history.specs.declared.world.Datafile.{Datafile}
 use Rattle.rm_machine.specs.{Obsolete.{NeedsBackup, retention_of}, State.{ledger}}
-use Rattle.rm_step_retain.proofs.{Needed.{needs-number}, needing.in_need.{Goals as goal, Goals.{then-branch+in_ok-push, else-branch}}}
+use Rattle.rm_step_retain.proofs.{Needed.{needs-number}, needing.in_need.Goals.{then-branch+in_ok-push, else-branch}}
+use Rattle.rm_step_retain.proofs.needing.in_need.Goals as goal
 
 pub loop-index-preserved : goal.loop-index-preserved
 loop-index-preserved c =

@@ -1,6 +1,7 @@
 use Rattle.std.proofs.{Common.{rules, ◌≡◌, None, Some}, lemmas.{Bool.{false≢true}, Result.{IfOk-weaker}}}
 use Rattle.rm_machine.specs.State.{on_path}
-use Rattle.rm_step_retain.proofs.{Needed.{needs-off, needs-on}, needing.needs_backup.Goals as goal}
+use Rattle.rm_step_retain.proofs.Needed.{needs-off, needs-on}
+use Rattle.rm_step_retain.proofs.needing.needs_backup.Goals as goal
 
 pub returns-in-Some : goal.returns-in-Some
 returns-in-Some c =

@@ -1,6 +1,7 @@
 use Rattle.std.proofs.Common.{◌∙◌, ◌++◌, ◌∷◌, [], List, ℕ, ap, length, map}
 use Rattle.rm_report.specs.declared.line.Line.TheVariants.{NeedsBackup, NeedCount}
-use Rattle.rm_step_retain.proofs.{Dates.{counted-dated}, Needed.{need-tells}, needing.report_need_backup.Goals as goal}
+use Rattle.rm_step_retain.proofs.{Dates.{counted-dated}, Needed.{need-tells}}
+use Rattle.rm_step_retain.proofs.needing.report_need_backup.Goals as goal
 
 pub returns-clause-tells : goal.returns-clause-tells
 returns-clause-tells g c =

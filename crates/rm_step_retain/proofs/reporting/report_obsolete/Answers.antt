@@ -1,6 +1,7 @@
 use Rattle.std.proofs.Common.{length}
 use Rattle.rm_report.specs.declared.line.Line.TheVariants.{Obsolete, ObsoleteCount}
-use Rattle.rm_step_retain.proofs.{Dates.{counted-dated}, reporting.report_obsolete.Goals as goal}
+use Rattle.rm_step_retain.proofs.Dates.{counted-dated}
+use Rattle.rm_step_retain.proofs.reporting.report_obsolete.Goals as goal
 
 pub returns-clause-dates : goal.returns-clause-dates
 returns-clause-dates g c =

@@ -1,4 +1,5 @@
-use Rattle.rm_step_tell.proofs.{Dumped.{row-told}, dumping.dump.Goals as goal}
+use Rattle.rm_step_tell.proofs.Dumped.{row-told}
+use Rattle.rm_step_tell.proofs.dumping.dump.Goals as goal
 
 pub placed_row-requires : goal.placed_row-requires
 placed_row-requires c = (row-told c.args.state.now c.args.file c.args.block c.requires.sound c.requires.accepted).number.0

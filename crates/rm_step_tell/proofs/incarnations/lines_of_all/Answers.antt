@@ -1,5 +1,6 @@
 use Rattle.std.proofs.Common.{◌≡◌, ◌+◌, ◌-◌, ◌∙◌, suc, arith, length}
-use Rattle.rm_step_tell.proofs.{IncarnationLines.{lines-next}, incarnations.lines_of_all.Goals as goal}
+use Rattle.rm_step_tell.proofs.IncarnationLines.{lines-next}
+use Rattle.rm_step_tell.proofs.incarnations.lines_of_all.Goals as goal
 
 pub loop-inc-preserved : goal.loop-inc-preserved
 loop-inc-preserved c =

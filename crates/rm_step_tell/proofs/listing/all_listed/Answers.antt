@@ -3,7 +3,8 @@ use Rattle.rm_catalog.specs.declared.record.Record.{Record}
 use Rattle.rm_machine.specs.Lists.{IsListed}
 use Rattle.rm_report.specs.declared.line.Line.{Line}
 use Rattle.rm_verify.proofs.Growing.{end, next}
-use Rattle.rm_step_tell.proofs.{Listed.{is-of-one, tells}, listing.all_listed.Goals as goal}
+use Rattle.rm_step_tell.proofs.Listed.{is-of-one, tells}
+use Rattle.rm_step_tell.proofs.listing.all_listed.Goals as goal
 
 pub loop-row-preserved : goal.loop-row-preserved
 loop-row-preserved c =

@@ -1,7 +1,8 @@
 use Rattle.std.{specs.List.{flat_map}, proofs.{Common.{◌≡◌, All, List}, lemmas.Result.{IfOk-weaker}}}
 use Rattle.rm_machine.specs.{Effect.{told}, Lists.{IsListOutcome}}
 use Rattle.rm_report.specs.{Reply.{IsPlain}, declared.line.Line.{Line}}
-use Rattle.rm_step_tell.proofs.{Listed.{dated, lists}, listing.list.Goals as goal}
+use Rattle.rm_step_tell.proofs.Listed.{dated, lists}
+use Rattle.rm_step_tell.proofs.listing.list.Goals as goal
 
 pub returns-clause-lists : goal.returns-clause-lists
 returns-clause-lists c =

@@ -1,7 +1,8 @@
 use Rattle.std.proofs.Common.{◌≡◌, ◌<◌, ◌^◌, ℕ, List, [], length, subst}
 use Rattle.rm_base.specs.declared.kinds.Bad.{Bad}
 use Rattle.rm_evidence.{specs.{Available.{IsSkipped}, Gathered.{Lists}}, proofs.Seen.{seen-told}}
-use Rattle.rm_step_tell.proofs.{Validated.{validated, validated-dated, with-count}, validating.validate_all.Goals as goal}
+use Rattle.rm_step_tell.proofs.Validated.{validated, validated-dated, with-count}
+use Rattle.rm_step_tell.proofs.validating.validate_all.Goals as goal
 
 pub returns-clause-tells : goal.returns-clause-tells
 returns-clause-tells g c =

@@ -1,5 +1,6 @@
 use Rattle.std.proofs.lemmas.Result.{IfOk-weaker}
-use Rattle.rm_step_upkeep.proofs.{Fits.{log-sound, piece-sound, set-sound}, amending.amend.Goals as goal}
+use Rattle.rm_step_upkeep.proofs.Fits.{log-sound, piece-sound, set-sound}
+use Rattle.rm_step_upkeep.proofs.amending.amend.Goals as goal
 
 pub amend_piece-requires : goal.amend_piece-requires
 amend_piece-requires c = record { sound = log-sound c.args.state.now c.amend_log.new.state c.args.by c.args.id c.requires.sound c.in_ok-amend_log.ensures.value }

@@ -1,5 +1,6 @@
 use Rattle.std.proofs.Common.{◌∙◌, ap, sym}
-use Rattle.rm_step_upkeep.{specs.Amended.{piece_by}, proofs.{Fits.{piece-fits}, amending.amend_piece.Goals as goal}}
+use Rattle.rm_step_upkeep.{specs.Amended.{piece_by}, proofs.Fits.{piece-fits}}
+use Rattle.rm_step_upkeep.proofs.amending.amend_piece.Goals as goal
 
 pub put_piece-requires : goal.put_piece-requires
 put_piece-requires c = record {

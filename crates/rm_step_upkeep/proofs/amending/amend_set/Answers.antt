@@ -1,5 +1,6 @@
 use Rattle.std.proofs.Common.{◌∙◌, ap, sym}
-use Rattle.rm_step_upkeep.{specs.Amended.{set_by}, proofs.{Fits.{set-fits}, amending.amend_set.Goals as goal}}
+use Rattle.rm_step_upkeep.{specs.Amended.{set_by}, proofs.Fits.{set-fits}}
+use Rattle.rm_step_upkeep.proofs.amending.amend_set.Goals as goal
 
 pub put_set-requires : goal.put_set-requires
 put_set-requires c = record {

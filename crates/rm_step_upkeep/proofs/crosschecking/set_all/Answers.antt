@@ -1,5 +1,6 @@
 use Rattle.std.proofs.Common.{rules}
-use Rattle.rm_step_upkeep.proofs.{Checked.{next-line, next-status}, crosschecking.set_all.Goals as goal}
+use Rattle.rm_step_upkeep.proofs.Checked.{next-line, next-status}
+use Rattle.rm_step_upkeep.proofs.crosschecking.set_all.Goals as goal
 
 pub loop-id-preserved : goal.loop-id-preserved
 loop-id-preserved c =

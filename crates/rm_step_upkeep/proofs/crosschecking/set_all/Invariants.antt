@@ -1,7 +1,8 @@
 use Rattle.std.proofs.Common.{◌≡◌, drop, map, take}
 use Rattle.rm_catalog_typed.specs.Changes.{EditsFollow}
 use Rattle.rm_machine.specs.{Sound.{IsSound}, Upkeep.{with_catalog, with_statuses}}
-use Rattle.rm_step_upkeep.{specs.Lines.{status_line}, proofs.crosschecking.set_all.Given as goal}
+use Rattle.rm_step_upkeep.specs.Lines.{status_line}
+use Rattle.rm_step_upkeep.proofs.crosschecking.set_all.Given as goal
 
 abbrev pub invariant-loop-id : goal.invariant-loop-id
 invariant-loop-id l = record {

@@ -1,7 +1,8 @@
 use Rattle.std.proofs.Common.{◌≤◌, ◌<◌, ◌^◌, ◌∙◌, ◌++◌, ◌∷◌, [], ℕ, List, All, ap, length, map, subst, sym}
 use Rattle.rm_report.specs.declared.line.Line.TheVariants.{Deleted, DeletedCount}
 use Rattle.rm_machine.{specs.{Upkeep.{with_catalog, without_all}, declared.state.State.{State}}, proofs.Ids.{few-ids, some-ids}}
-use Rattle.rm_step_upkeep.proofs.{Listed.{expired-hands, in-range}, expiring.delete_expired.Goals as goal}
+use Rattle.rm_step_upkeep.proofs.Listed.{expired-hands, in-range}
+use Rattle.rm_step_upkeep.proofs.expiring.delete_expired.Goals as goal
 
 pub drop_records-requires : goal.drop_records-requires
 drop_records-requires c =

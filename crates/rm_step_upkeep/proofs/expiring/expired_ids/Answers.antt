@@ -1,7 +1,8 @@
 use Rattle.std.proofs.Common.{rules, ◌≡◌, ◌∙◌, ℕ, List, ap, map, subst, sym}
 use Rattle.rm_apply.specs.Files.{AreExactly}
 use Rattle.rm_machine.specs.Upkeep.{IsExpired}
-use Rattle.rm_step_upkeep.{specs.Expired.{Alone}, proofs.{Listed.{exactly}, expiring.expired_ids.Goals as goal}}
+use Rattle.rm_step_upkeep.{specs.Expired.{Alone}, proofs.Listed.{exactly}}
+use Rattle.rm_step_upkeep.proofs.expiring.expired_ids.Goals as goal
 
 pub returns : goal.returns
 returns c =

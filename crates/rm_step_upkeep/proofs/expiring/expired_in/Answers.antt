@@ -2,7 +2,8 @@ use Rattle.std.proofs.Common.{List}
 use Rattle.rm_catalog.specs.declared.record.Record.{Record}
 use Rattle.rm_machine.specs.Upkeep.{IsExpired}
 use Rattle.rm_verify.proofs.Growing.{end, next}
-use Rattle.rm_step_upkeep.{specs.Expired.{Alone}, proofs.{Listed.{is-of-one, tells}, expiring.expired_in.Goals as goal}}
+use Rattle.rm_step_upkeep.{specs.Expired.{Alone}, proofs.Listed.{is-of-one, tells}}
+use Rattle.rm_step_upkeep.proofs.expiring.expired_in.Goals as goal
 
 pub loop-row-preserved : goal.loop-row-preserved
 loop-row-preserved c =

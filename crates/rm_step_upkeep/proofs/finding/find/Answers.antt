@@ -1,5 +1,6 @@
 use Rattle.std.{specs.Prelude.{IfSome}, proofs.Common.{◌≡◌, List, ℕ, subst}}
-use Rattle.rm_step_upkeep.{specs.Catalogued.{ReadsAs}, proofs.{Read.{read-there}, finding.find.Goals as goal}}
+use Rattle.rm_step_upkeep.{specs.Catalogued.{ReadsAs}, proofs.Read.{read-there}}
+use Rattle.rm_step_upkeep.proofs.finding.find.Goals as goal
 
 pub returns-clause-finds : goal.returns-clause-finds
 returns-clause-finds g c =

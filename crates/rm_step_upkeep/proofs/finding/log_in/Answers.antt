@@ -1,7 +1,8 @@
 use Rattle.std.proofs.Common.{rules, ◌≡◌, refl}
 use Rattle.sha2.specs.Sha256.{sha256}
 use Rattle.rm_redo.specs.LogFormat.{IsLogFile, spelling}
-use Rattle.rm_step_upkeep.proofs.{Read.{log-read, other-log}, finding.log_in.Goals as goal}
+use Rattle.rm_step_upkeep.proofs.Read.{log-read, other-log}
+use Rattle.rm_step_upkeep.proofs.finding.log_in.Goals as goal
 
 pub returns-then-not-is_log_here : goal.returns-then-not-is_log_here
 returns-then-not-is_log_here c =

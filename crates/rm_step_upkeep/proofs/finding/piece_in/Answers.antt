@@ -2,8 +2,10 @@ use Rattle.std.proofs.Common.{rules, ◌≡◌, refl, subst, sym}
 use Rattle.sha2.specs.Sha256.{sha256}
 use Rattle.rm_catalog.specs.declared.record.PieceEntry.{PieceEntry}
 use Rattle.rm_piece.specs.{Spelling.{spelling}, Valid.{IsPiece}}
-use Rattle.rm_step_upkeep.specs.{Catalogued.{IsEntryOf}, declared.{finding.Entry.TheVariants as entry, naming.Named.TheVariants as named}}
-use Rattle.rm_step_upkeep.proofs.{Read.{other-piece, piece-read}, finding.piece_in.Goals as goal}
+use Rattle.rm_step_upkeep.{specs.Catalogued.{IsEntryOf}, proofs.Read.{other-piece, piece-read}}
+use Rattle.rm_step_upkeep.specs.declared.finding.Entry.TheVariants as entry
+use Rattle.rm_step_upkeep.specs.declared.naming.Named.TheVariants as named
+use Rattle.rm_step_upkeep.proofs.finding.piece_in.Goals as goal
 
 pub returns-then-not-is_piece_here : goal.returns-then-not-is_piece_here
 returns-then-not-is_piece_here c =

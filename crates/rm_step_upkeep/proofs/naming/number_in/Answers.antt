@@ -1,6 +1,7 @@
 use Rattle.std.{specs.Result.{result_ok}, proofs.{Common.{◌∙◌, Some, ap, arith}, lemmas.Fmt.{parse-decimal}}}
 use Rattle.std.proofs.lemmas.Str.Pattern.{split_once_first}
-use Rattle.rm_step_upkeep.proofs.{Read.{named-digits}, naming.number_in.Goals as goal}
+use Rattle.rm_step_upkeep.proofs.Read.{named-digits}
+use Rattle.rm_step_upkeep.proofs.naming.number_in.Goals as goal
 
 pub returns : goal.returns
 returns c id named =

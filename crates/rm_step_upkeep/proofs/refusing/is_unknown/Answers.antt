@@ -1,5 +1,6 @@
 use Rattle.std.proofs.Common.{rules, ◌<◌, sym}
-use Rattle.rm_step_upkeep.proofs.{Known.{large-unknown}, refusing.is_unknown.Goals as goal}
+use Rattle.rm_step_upkeep.proofs.Known.{large-unknown}
+use Rattle.rm_step_upkeep.proofs.refusing.is_unknown.Goals as goal
 
 pub returns-then-id-from : goal.returns-then-id-from
 returns-then-id-from c =

@@ -1,5 +1,6 @@
 use Rattle.std.proofs.Common.{rules, ◌<◌}
-use Rattle.rm_step_upkeep.proofs.{Known.{accepted-id}, refusing.known.Goals as goal}
+use Rattle.rm_step_upkeep.proofs.Known.{accepted-id}
+use Rattle.rm_step_upkeep.proofs.refusing.known.Goals as goal
 
 pub overflow_cast-result : goal.overflow_cast-result
 overflow_cast-result c =

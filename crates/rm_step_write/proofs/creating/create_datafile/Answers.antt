@@ -5,7 +5,8 @@ use Rattle.rm_catalog_typed.specs.{Fitting.{FitsFile}, TypedCatalog.{TypedCatalo
 use Rattle.rm_machine.specs.{CreateDatafile.{new_datafile, next_file, with_datafile}, Effect.{no_effect}, State.{now_of}}
 use Rattle.rm_machine.{specs.declared.state.State.{State}, proofs.{AddingDatafile.{datafile-fits, has-room}, Handing.{hands-by}}}
 use Rattle.rm_report.specs.declared.line.Line.TheVariants.{DatafileAt}
-use Rattle.rm_step_write.proofs.{Results.{after-datafile}, creating.create_datafile.Goals as goal}
+use Rattle.rm_step_write.proofs.Results.{after-datafile}
+use Rattle.rm_step_write.proofs.creating.create_datafile.Goals as goal
 
 pub add_file-requires : goal.add_file-requires
 add_file-requires c =

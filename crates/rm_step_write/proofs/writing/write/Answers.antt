@@ -6,7 +6,8 @@ use Rattle.rm_lang_statement.specs.declared.command.Command.TheVariants.{Write}
 use Rattle.rm_machine.specs.{Effect.{no_effect}, State.{now_of}, Write.{change_of, with_write}, declared.state.Instance.{Instance}}
 use Rattle.rm_machine.{specs.declared.state.State.{State}, proofs.{Handing.{hands-by}, Writes.{write-accepted}}}
 use Rattle.rm_report.specs.declared.line.Line.TheVariants.{Written}
-use Rattle.rm_step_write.proofs.{Accepted.{can-append, rows-below, write-numbers}, Results.{after-write}, writing.write.Goals as goal}
+use Rattle.rm_step_write.proofs.{Accepted.{can-append, rows-below, write-numbers}, Results.{after-write}}
+use Rattle.rm_step_write.proofs.writing.write.Goals as goal
 
 abbrev IsAbove : List (Option File) → Change → Type 0
 IsAbove place c = IfSome (slice_index_or place (c.file - 1) None) (λ x. IfSome (slice_get x.rows c.block) (λ r. r.version < c.scn))

@@ -1,5 +1,6 @@
 use Rattle.std.proofs.Common.{Some}
-use Rattle.rm_store_dir.proofs.{Stops.{begun, synced, ended}, folder.put_whole.Goals as goal}
+use Rattle.rm_store_dir.proofs.Stops.{begun, synced, ended}
+use Rattle.rm_store_dir.proofs.folder.put_whole.Goals as goal
 
 pub returns-in-Err-clause-keeps : goal.returns-in-Err-clause-keeps
 returns-in-Err-clause-keeps g c =

@@ -1,5 +1,6 @@
 use Rattle.std.proofs.Common.{None}
-use Rattle.rm_store_dir.proofs.{Stops.{synced, told-where}, folder.remove_whole.Goals as goal}
+use Rattle.rm_store_dir.proofs.Stops.{synced, told-where}
+use Rattle.rm_store_dir.proofs.folder.remove_whole.Goals as goal
 
 pub returns-clause-keeps : goal.returns-clause-keeps
 returns-clause-keeps g c =

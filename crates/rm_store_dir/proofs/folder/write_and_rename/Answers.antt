@@ -1,4 +1,5 @@
-use Rattle.rm_store_dir.proofs.{Stops.{renamed}, folder.write_and_rename.Goals as goal}
+use Rattle.rm_store_dir.proofs.Stops.{renamed}
+use Rattle.rm_store_dir.proofs.folder.write_and_rename.Goals as goal
 
 pub returns-clause-keeps : goal.returns-clause-keeps
 returns-clause-keeps g c =

@@ -1,6 +1,7 @@
 use Rattle.std.proofs.Common.{ap, rules}
 use Rattle.rm_live.specs.Passes.{Standing}
-use Rattle.rm_test_channel.proofs.{Opened.{can-write-as, there-as, threads-as}, during.copied.Goals as goal}
+use Rattle.rm_test_channel.proofs.Opened.{can-write-as, there-as, threads-as}
+use Rattle.rm_test_channel.proofs.during.copied.Goals as goal
 
 pub copy_during-work-requires-clause-there : goal.copy_during-work-requires-clause-there
 copy_during-work-requires-clause-there g c lifetimes outlive k d lt = there-as c.in_ok-live.pass.opening _ c.args.blocks (ap (λ (s : Standing). s.opening) c.in_ok-live.ensures) (c.requires.jobs k d lt)

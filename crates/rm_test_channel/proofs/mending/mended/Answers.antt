@@ -1,6 +1,7 @@
 use Rattle.std.proofs.Common.{ap, arith, rules}
 use Rattle.rm_live.specs.Passes.{Standing}
-use Rattle.rm_test_channel.proofs.{Opened.{can-write-as, threads-as}, mending.mended.Goals as goal}
+use Rattle.rm_test_channel.proofs.Opened.{can-write-as, threads-as}
+use Rattle.rm_test_channel.proofs.mending.mended.Goals as goal
 
 pub mend_during-pass-requires-clause-threads : goal.mend_during-pass-requires-clause-threads
 mend_during-pass-requires-clause-threads g c κs within = threads-as c.in_ok-live.pass.opening 4 c.args.writers.now (ap (λ (s : Standing). s.opening) c.in_ok-live.ensures) c.requires.few

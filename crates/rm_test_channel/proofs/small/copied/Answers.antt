@@ -1,6 +1,7 @@
 use Rattle.std.proofs.Common.{ap}
 use Rattle.rm_live.specs.Passes.{Standing}
-use Rattle.rm_test_channel.proofs.{Opened.{there-later}, small.copied.Goals as goal}
+use Rattle.rm_test_channel.proofs.Opened.{there-later}
+use Rattle.rm_test_channel.proofs.small.copied.Goals as goal
 
 pub copy_file-rows-requires-clause-there : goal.copy_file-rows-requires-clause-there
 copy_file-rows-requires-clause-there g c lifetimes outlive =

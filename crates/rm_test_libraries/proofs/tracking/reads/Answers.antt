@@ -1,5 +1,6 @@
 use Rattle.std.proofs.Common.{◌+◌, arith}
-use Rattle.rm_test_libraries.proofs.{Tracked.{starts-later, starts-marked, starts-switched}, tracking.reads.Goals as goal}
+use Rattle.rm_test_libraries.proofs.Tracked.{starts-later, starts-marked, starts-switched}
+use Rattle.rm_test_libraries.proofs.tracking.reads.Goals as goal
 
 pub switch-requires : goal.switch-requires
 switch-requires c =

@@ -3,7 +3,8 @@ use Rattle.rm_lang_statement.specs.IsCommand.{is_inner}
 use Rattle.rm_tool.specs.{Built.{is_built_inner}, Quiet.{only_tells_inner}}
 use Rattle.rm_tool.proofs.Blocks.{inside-done, inside-more, inside-refused, inside-all, others-pass, all-added}
 use Rattle.rm_tool.proofs.{Coming.{comes-all, comes-more, comes-refused}, Quiet.{first-passes, same-then, untouched-then}}
-use Rattle.rm_tool.proofs.{Statements.{on-err}, block.serve_block.Goals as goal}
+use Rattle.rm_tool.proofs.Statements.{on-err}
+use Rattle.rm_tool.proofs.block.serve_block.Goals as goal
 use Rattle.rm_report.specs.{Reply.{IsPlain, LineHasDate}, declared.line.Line.{Line}}
 use Rattle.rm_report.proofs.Plain.{plain-dated, plain-lines, refused-behind}
 

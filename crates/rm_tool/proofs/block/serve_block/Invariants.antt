@@ -3,7 +3,8 @@ use Rattle.rm_report.specs.Reply.{IsPlain}
 use Rattle.rm_lang_statement.specs.IsCommand.{is_inner}
 use Rattle.rm_tool_opening.specs.Untouched.{IsUntouched}
 use Rattle.rm_tool.{specs.{Block.{AreSet}, Built.{is_built_inner}, Quiet.{only_tells_inner}, Comes.{at_hand}}, proofs.Blocks.{InsideEach}}
-use Rattle.rm_tool.proofs.{Coming.{Comes}, block.serve_block.Given as goal}
+use Rattle.rm_tool.proofs.Coming.{Comes}
+use Rattle.rm_tool.proofs.block.serve_block.Given as goal
 
 abbrev pub invariant-loop-inner : goal.invariant-loop-inner
 invariant-loop-inner g l =

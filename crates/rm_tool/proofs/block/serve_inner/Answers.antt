@@ -3,7 +3,8 @@ use Rattle.rm_machine.specs.Built.{is_built}
 use Rattle.rm_lang_statement.specs.{IsCommand.{is_command, is_inner}, declared.command.{Command.{Command}, Inner.{Inner}}}
 use Rattle.rm_tool.{specs.{Built.{is_built_inner}, Quiet.{only_tells_inner}}, proofs.Blocks.{channel-flagged, inner-untouched, set-flagged}}
 use Rattle.rm_tool.proofs.{Quiet.{quiet-with, tells-so}, Setting.{built_with, command_with}, Coming.{inner-comes, step-comes}}
-use Rattle.rm_tool.proofs.{Statements.{err-map, on-err}, block.serve_inner.Goals as goal}
+use Rattle.rm_tool.proofs.Statements.{err-map, on-err}
+use Rattle.rm_tool.proofs.block.serve_inner.Goals as goal
 use Rattle.rm_report.specs.Reply.{IsFlagged}
 
 pub returns-in_err-command-in-Plain-clause-stopped : goal.returns-in_err-command-in-Plain-clause-stopped

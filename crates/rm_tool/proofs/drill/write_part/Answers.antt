@@ -1,6 +1,7 @@
 use Rattle.std.{specs.Fmt.{decimal}, proofs.Common.{subst, ◌∙◌, List, ℕ}}
 use Rattle.rm_base.specs.Outside.{Appends}
-use Rattle.rm_tool.proofs.{Lines.{err-after}, drill.write_part.Goals as goal}
+use Rattle.rm_tool.proofs.Lines.{err-after}
+use Rattle.rm_tool.proofs.drill.write_part.Goals as goal
 
 pub returns-clause-front : goal.returns-clause-front
 returns-clause-front g c =

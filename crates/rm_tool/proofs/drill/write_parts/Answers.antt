@@ -1,4 +1,5 @@
-use Rattle.rm_tool.proofs.{Lines.{parts-front}, Statements.{on-err}, drill.write_parts.Goals as goal}
+use Rattle.rm_tool.proofs.{Lines.{parts-front}, Statements.{on-err}}
+use Rattle.rm_tool.proofs.drill.write_parts.Goals as goal
 
 pub returns-in_err-write_part-clause-front : goal.returns-in_err-write_part-clause-front
 returns-in_err-write_part-clause-front g c =

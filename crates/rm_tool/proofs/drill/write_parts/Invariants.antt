@@ -1,6 +1,7 @@
 use Rattle.std.proofs.Common.{◌≤◌, take}
 use Rattle.rm_base.specs.Outside.{Appends}
-use Rattle.rm_tool.{specs.Drill.{parts_text}, proofs.drill.write_parts.Given as goal}
+use Rattle.rm_tool.specs.Drill.{parts_text}
+use Rattle.rm_tool.proofs.drill.write_parts.Given as goal
 
 abbrev pub invariant-loop-part : goal.invariant-loop-part
 invariant-loop-part g l = record {

@@ -1,6 +1,7 @@
 use Rattle.std.proofs.Common.{◌≡◌, ◌≤◌, ◌+◌, ◌-◌, length}
 use Rattle.rm_base.specs.Outside.{HasTaken}
-use Rattle.rm_tool.{specs.Ends.{Counted}, proofs.ends.read_all.Given as goal}
+use Rattle.rm_tool.specs.Ends.{Counted}
+use Rattle.rm_tool.proofs.ends.read_all.Given as goal
 
 abbrev pub invariant-reading : goal.invariant-reading
 invariant-reading g l = record {

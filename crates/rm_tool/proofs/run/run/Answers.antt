@@ -1,6 +1,8 @@
 use Rattle.std.proofs.Common.{◌∷◌, [], Contains, refl, subst, sym}
-use Rattle.rm_tool.specs.{Early.{RoseFor}, Run.{watch}, Session.{Finishes}, declared.early.Early.TheVariants as early}
-use Rattle.rm_tool.proofs.{Statuses.{done-at, done-on, ended-at, has-status, long-at, none-ran-at, of-bad, of-none}, run.run.Goals as goal}
+use Rattle.rm_tool.specs.{Early.{RoseFor}, Run.{watch}, Session.{Finishes}}
+use Rattle.rm_tool.proofs.Statuses.{done-at, done-on, ended-at, has-status, long-at, none-ran-at, of-bad, of-none}
+use Rattle.rm_tool.specs.declared.early.Early.TheVariants as early
+use Rattle.rm_tool.proofs.run.run.Goals as goal
 
 -- 0 and 1
 

@@ -2,9 +2,10 @@ use Rattle.std.{specs.Prelude.{IfErr}, proofs.Common.{◌≡◌, ◌∙◌, ◌�
 use Rattle.rm_lang_token.{specs.Statements.{statements}, proofs.Reading.{feeds_within}}
 use Rattle.rm_tool_opening.{specs.Opening.{WritesUnopened}, proofs.Source.{told-err}}
 use Rattle.rm_tool.specs.Early.{EndsAtScript, EndsAtWords, Faults, Leaves, NoneFalls, RoseFor, of_halt, of_unopened, status_for, status_of}
-use Rattle.rm_tool.specs.{Run.{Watch, watch}, Session.{before_statements, in_output, midway}, declared.early.Early.TheVariants as early}
+use Rattle.rm_tool.specs.{Run.{Watch, watch}, Session.{before_statements, in_output, midway}}
 use Rattle.rm_tool.proofs.Calls.{ends-in-output, ends-midway, finishes, has-script}
 use Rattle.rm_tool.proofs.Leaving.{at-opening, at-script, at-words, err-is, falls-then, in-session, never-long-opening, never-long-session, none-falls, rose-at-opening, rose-at-words, rose-in-session, rose-then, status-err, words-status}
+use Rattle.rm_tool.specs.declared.early.Early.TheVariants as early
 use Rattle.rm_tool.proofs.run.session.Goals as goal
 
 pub statements-requires : goal.statements-requires

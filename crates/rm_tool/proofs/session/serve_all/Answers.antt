@@ -4,7 +4,8 @@ use Rattle.rm_base.specs.Outside.{Appends}
 use Rattle.rm_lang_token.specs.declared.token.Token.{Token}
 use Rattle.rm_tool_ends.specs.Writing.{WritesFront}
 use Rattle.rm_tool.proofs.Runs.{progress-none, progress-reached, reached-more, reached-ends, progress-serves, progress-cut}
-use Rattle.rm_tool.proofs.{Statements.{cut-served}, session.serve_all.Goals as goal}
+use Rattle.rm_tool.proofs.Statements.{cut-served}
+use Rattle.rm_tool.proofs.session.serve_all.Goals as goal
 
 -- the statement at hand, with its tokens as `serve` was given them
 at-hand : (ss : List (ℕ × List Token)) (i : ℕ) (s : ℕ × List Token) (ts : List Token) → i < length ss → s ≡ get_or ss i s → ts ≡ s.1 → slice_get ss i ≡ Some (s.0, ts)

@@ -1,5 +1,6 @@
 use Rattle.std.proofs.Common.{◌≡◌, ◌≤◌, take, true}
-use Rattle.rm_tool.{specs.Run.{watch}, proofs.{Runs.{Progress}, session.serve_all.Given as goal}}
+use Rattle.rm_tool.{specs.Run.{watch}, proofs.Runs.{Progress}}
+use Rattle.rm_tool.proofs.session.serve_all.Given as goal
 
 abbrev pub invariant-loop-line : goal.invariant-loop-line
 invariant-loop-line g l =

@@ -1,4 +1,5 @@
-use Rattle.rm_tool.proofs.{Closing.{closes, ends-at-saving}, session.serve_session.Goals as goal}
+use Rattle.rm_tool.proofs.Closing.{closes, ends-at-saving}
+use Rattle.rm_tool.proofs.session.serve_session.Goals as goal
 
 pub returns-clause-ok : goal.returns-clause-ok
 returns-clause-ok g c = closes c.requires.fresh c.args.drill c.in_ok-refused.ensures.ok c.in_ok-save.ensures.saved c.save.ensures.unapplied c.in_ok-save.ensures.ends

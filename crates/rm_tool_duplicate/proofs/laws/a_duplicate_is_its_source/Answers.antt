@@ -8,7 +8,8 @@ use Rattle.rm_history.specs.{Evidence.{Agrees}, History.{IsHistory}, Tree.{IsThe
 use Rattle.rm_machine.specs.Recovery.{in_place}
 use Rattle.rm_machine_laws.proofs.Agreeing.{agreed}
 use Rattle.rm_tool_duplicate.{specs.Asked.{target_inc}, proofs.Back.{catalog, database, inside, recorded-as, stands, there}}
-use Rattle.rm_tool_duplicate.proofs.{First.{first-place}, laws.a_duplicate_is_its_source.Goals as goal}
+use Rattle.rm_tool_duplicate.proofs.First.{first-place}
+use Rattle.rm_tool_duplicate.proofs.laws.a_duplicate_is_its_source.Goals as goal
 
 pub returns-clause-records : goal.returns-clause-records
 returns-clause-records c x a b before now rs is is_target =

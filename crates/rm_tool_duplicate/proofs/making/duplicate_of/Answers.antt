@@ -5,7 +5,8 @@ use Rattle.rm_lang_words.specs.Reading.{duplicate_of}
 use Rattle.rm_machine.specs.{Sound.{IsSound}, State.{tree}, declared.state.State.{State}}
 use Rattle.rm_step_recover.proofs.{Records.{there}, Targets.{target-there}}
 use Rattle.rm_tool_duplicate.{specs.{Asked.{sides}, Refused.{IsRefused, by_reason}}, proofs.Made.{made-all, reason-by-names, refused-all}}
-use Rattle.rm_tool_duplicate.proofs.{Reasons.{by-numbers, no-source, number-none}, making.duplicate_of.Goals as goal}
+use Rattle.rm_tool_duplicate.proofs.Reasons.{by-numbers, no-source, number-none}
+use Rattle.rm_tool_duplicate.proofs.making.duplicate_of.Goals as goal
 
 pub returns-in_default-clause-refused : goal.returns-in_default-clause-refused
 returns-in_default-clause-refused g c =

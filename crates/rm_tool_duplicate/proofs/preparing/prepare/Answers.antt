@@ -6,7 +6,8 @@ use Rattle.rm_machine.specs.declared.state.State.{State}
 use Rattle.rm_piece.specs.declared.piece.Piece.{Piece}
 use Rattle.rm_tool_opening.proofs.Source.{told-err}
 use Rattle.rm_tool_duplicate.specs.{Asked.{sides}, Duplicated.{IsMadeOf, commit_for}, Ended.{Leaves}, Refused.{IsRefused}}
-use Rattle.rm_tool_duplicate.proofs.{Ending.{shown-of, sides-stay, untold-refusal}, Truth.{makes}, preparing.prepare.Goals as goal}
+use Rattle.rm_tool_duplicate.proofs.{Ending.{shown-of, sides-stay, untold-refusal}, Truth.{makes}}
+use Rattle.rm_tool_duplicate.proofs.preparing.prepare.Goals as goal
 
 pub returns-in_err-write_refusal-in-Err-clause-ended : goal.returns-in_err-write_refusal-in-Err-clause-ended
 returns-in_err-write_refusal-in-Err-clause-ended g c =

@@ -1,5 +1,6 @@
 use Rattle.std.proofs.Common.{◌+◌, ◌<◌, ◌∙◌, ap, arith, sym}
-use Rattle.rm_tool_duplicate.{specs.Refused.{is_among}, proofs.{Naming.{next-name}, refusing.first_taken.Goals as goal}}
+use Rattle.rm_tool_duplicate.{specs.Refused.{is_among}, proofs.Naming.{next-name}}
+use Rattle.rm_tool_duplicate.proofs.refusing.first_taken.Goals as goal
 
 pub loop-number-preserved : goal.loop-number-preserved
 loop-number-preserved c =

@@ -1,5 +1,6 @@
 use Rattle.rm_shelf.specs.Shelved.{under}
-use Rattle.rm_tool_duplicate.proofs.{Reasons.{has-records}, refusing.has_records.Goals as goal}
+use Rattle.rm_tool_duplicate.proofs.Reasons.{has-records}
+use Rattle.rm_tool_duplicate.proofs.refusing.has_records.Goals as goal
 
 pub returns-clause-told : goal.returns-clause-told
 returns-clause-told g c =

@@ -3,7 +3,8 @@ use Rattle.rm_lang_words.specs.{Duplicate.{DuplicateSaid, duplicate_said}, Readi
 use Rattle.rm_shelf.specs.Shelved.{OthersStay, under}
 use Rattle.rm_tool_duplicate.{specs.Asked.{sides}, proofs.Statuses.{leaves-at, of-bad, of-none, one-said}}
 use Rattle.rm_tool_duplicate.proofs.run.run_duplicate.Goals as goal
-use Rattle.rm_tool_ends.{specs.{Ended.{Counts}, declared.ended.Ended.TheVariants as ended}, proofs.Statuses.{has-status, words-status}}
+use Rattle.rm_tool_ends.{specs.Ended.{Counts}, proofs.Statuses.{has-status, words-status}}
+use Rattle.rm_tool_ends.specs.declared.ended.Ended.TheVariants as ended
 
 pub returns-in-Err-Bad-clause-statuses : goal.returns-in-Err-Bad-clause-statuses
 returns-in-Err-Bad-clause-statuses g c = words-status c.refuse_words.result c.refuse_words.ensures.statuses

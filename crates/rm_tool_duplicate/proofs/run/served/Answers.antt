@@ -5,7 +5,8 @@ use Rattle.rm_lang_words.specs.Reading.{duplicate_of as said_of}
 use Rattle.rm_tool_opening.{specs.Opening.{IsSource}, proofs.Source.{source-of}}
 use Rattle.rm_tool_duplicate.specs.{Asked.{Sides, sides}, Ended.{IsReady, Leaves}}
 use Rattle.rm_tool_duplicate.proofs.Ending.{finishes, halts, leaves-from, sides-stay, untold-lines}
-use Rattle.rm_tool_duplicate.proofs.{Staying.{all-then, others-of, others-then}, run.served.Goals as goal}
+use Rattle.rm_tool_duplicate.proofs.Staying.{all-then, others-of, others-then}
+use Rattle.rm_tool_duplicate.proofs.run.served.Goals as goal
 use Rattle.rm_tool_ends.{specs.Writing.{WritesFront}, proofs.Ending.{on-err, on-ok}}
 
 pub prepare-requires-clause-source : goal.prepare-requires-clause-source

@@ -1,5 +1,6 @@
 use Rattle.std.{specs.List.{enumerate_from}, proofs.Common.{◌≡◌, ◌+◌, ◌++◌, drop, map}}
-use Rattle.rm_tool_duplicate.{specs.Duplicated.{file_line, file_lines}, proofs.telling.push_files.Given as goal}
+use Rattle.rm_tool_duplicate.specs.Duplicated.{file_line, file_lines}
+use Rattle.rm_tool_duplicate.proofs.telling.push_files.Given as goal
 
 abbrev pub invariant-loop-file : goal.invariant-loop-file
 invariant-loop-file l = record {

@@ -3,7 +3,8 @@ use Rattle.rm_base.specs.Outside.{Appends}
 use Rattle.rm_catalog.specs.declared.record.Key.{Key}
 use Rattle.rm_site.specs.{Faults.{IsBadFirst}, declared.open.OpenFault.{OpenFault}}
 use Rattle.rm_tool_ends.specs.Writing.{WritesFront}
-use Rattle.rm_tool_opening.{specs.Opening.{bad_record}, proofs.opening.open_told.Goals as goal}
+use Rattle.rm_tool_opening.specs.Opening.{bad_record}
+use Rattle.rm_tool_opening.proofs.opening.open_told.Goals as goal
 
 pub returns-in_err-write_all-in-Err-BadRow-clause-sink : goal.returns-in_err-write_all-in-Err-BadRow-clause-sink
 returns-in_err-write_all-in-Err-BadRow-clause-sink g c = λ is.

@@ -1,5 +1,6 @@
 use Rattle.std.proofs.Common.{◌∷◌, [], Contains, lit<, refl, sym, subst}
-use Rattle.rm_tool_resync.proofs.{Statuses.{has-status, without-fault, words-status}, run.run_resync.Goals as goal}
+use Rattle.rm_tool_resync.proofs.Statuses.{has-status, without-fault, words-status}
+use Rattle.rm_tool_resync.proofs.run.run_resync.Goals as goal
 
 pub returns-in-Err-Bad-clause-statuses : goal.returns-in-Err-Bad-clause-statuses
 returns-in-Err-Bad-clause-statuses g c = words-status c.refuse_words.result c.refuse_words.ensures.statuses

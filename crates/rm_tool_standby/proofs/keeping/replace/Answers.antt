@@ -1,7 +1,8 @@
 use Rattle.std.{specs.Prelude.{IsSome}, proofs.Common.{◌∙◌, ℕ, List, Option, Some, ap, subst}}
 use Rattle.rm_base.specs.Store.{Both, HasNow, SameBut}
 use Rattle.rm_tool_standby.specs.{Kept.{IsGone, OthersAre, Stops}, declared.keeping.Change.{Change}}
-use Rattle.rm_tool_standby.proofs.{Replacing.{always-err, replaced, stopped-remove}, keeping.replace.Goals as goal}
+use Rattle.rm_tool_standby.proofs.Replacing.{always-err, replaced, stopped-remove}
+use Rattle.rm_tool_standby.proofs.keeping.replace.Goals as goal
 
 pub returns-in_err-remove_old-clause-stopped : goal.returns-in_err-remove_old-clause-stopped
 returns-in_err-remove_old-clause-stopped g c found new left is =

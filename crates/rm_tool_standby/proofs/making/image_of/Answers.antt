@@ -3,7 +3,8 @@ use Rattle.rm_base.specs.declared.block.Change.{Change}
 use Rattle.rm_history.specs.{History.{IsHistory}, declared.world.World.{World}}
 use Rattle.rm_machine.specs.{Recovery.{AreMadeAt}, State.{current_of, ledger, world}}
 use Rattle.rm_standby.specs.{Image.{AreStates, CanImage, imaged}, Standby.{HoldsStates}}
-use Rattle.rm_tool_standby.proofs.{Imaging.{image-can, image-holds, image-is}, making.image_of.Goals as goal}
+use Rattle.rm_tool_standby.proofs.Imaging.{image-can, image-holds, image-is}
+use Rattle.rm_tool_standby.proofs.making.image_of.Goals as goal
 
 pub image-requires : goal.image-requires
 image-requires c =

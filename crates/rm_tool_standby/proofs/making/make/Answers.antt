@@ -5,7 +5,8 @@ use Rattle.rm_catalog.specs.declared.record.BaseEntry.{BaseEntry}
 use Rattle.rm_catalog_typed.specs.TypedCatalog.{records_of}
 use Rattle.rm_machine.specs.Recovery.{in_place, skipped_lines}
 use Rattle.rm_step_recover.specs.Gap.{NamesGap}
-use Rattle.rm_tool_standby.{specs.{Done.{made_line}, Refused.{gap, make}}, proofs.{Working.{made-work}, making.make.Goals as goal}}
+use Rattle.rm_tool_standby.{specs.{Done.{made_line}, Refused.{gap, make}}, proofs.Working.{made-work}}
+use Rattle.rm_tool_standby.proofs.making.make.Goals as goal
 
 pub returns-in-Some-clause-refused : goal.returns-in-Some-clause-refused
 returns-in-Some-clause-refused g c = make c.args.until c.in-Some.refusal (sym c.make_refusal.ensures ∙ c.in-Some.is)

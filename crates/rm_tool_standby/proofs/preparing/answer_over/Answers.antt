@@ -1,6 +1,7 @@
 use Rattle.std.{specs.Prelude.{IfErr}, proofs.Common.{Result, subst}}
 use Rattle.rm_base.specs.declared.refusal.Refusal.{Refusal}
-use Rattle.rm_tool_standby.{specs.{Refused.{RefusesTask, by_task}, declared.work.Work.{Work}}, proofs.preparing.answer_over.Goals as goal}
+use Rattle.rm_tool_standby.specs.{Refused.{RefusesTask, by_task}, declared.work.Work.{Work}}
+use Rattle.rm_tool_standby.proofs.preparing.answer_over.Goals as goal
 
 pub returns-clause-refused : goal.returns-clause-refused
 returns-clause-refused g c =

@@ -1,7 +1,8 @@
 use Rattle.std.proofs.{Common.{IfOk, Option, subst, sym}, lemmas.Result.{IfOk-weaker}}
 use Rattle.rm_base.specs.Store.{Held}
 use Rattle.rm_lang_words.specs.declared.standby.StandbyTask.{StandbyTask, TheVariants.{Dump}}
-use Rattle.rm_tool_standby.{specs.Prepared.{IsWork}, proofs.preparing.work_of.Goals as goal}
+use Rattle.rm_tool_standby.specs.Prepared.{IsWork}
+use Rattle.rm_tool_standby.proofs.preparing.work_of.Goals as goal
 
 pub returns-in_ok-dump-in-Dump-clause-work : goal.returns-in_ok-dump-in-Dump-clause-work
 returns-in_ok-dump-in-Dump-clause-work g c =

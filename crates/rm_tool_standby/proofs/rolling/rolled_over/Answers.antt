@@ -5,7 +5,8 @@ use Rattle.rm_machine.specs.State.{tree, world}
 use Rattle.rm_piece.specs.declared.set.Set.{Set}
 use Rattle.rm_standby.specs.Rolling.{Meets}
 use Rattle.rm_tool_standby.{specs.{Done.{rolled_line}, Refused.{RefusesRoll, apart, none_to_roll, number_refusal}}, proofs.Exact.{a-tree}}
-use Rattle.rm_tool_standby.proofs.{Working.{rolled-work}, rolling.rolled_over.Goals as goal}
+use Rattle.rm_tool_standby.proofs.Working.{rolled-work}
+use Rattle.rm_tool_standby.proofs.rolling.rolled_over.Goals as goal
 
 pub returns-in_default-clause-refused : goal.returns-in_default-clause-refused
 returns-in_default-clause-refused c =

@@ -1,6 +1,8 @@
 use Rattle.std.proofs.Common.{◌∷◌, [], Contains, lit<, refl, sym, subst}
-use Rattle.rm_tool_ends.{specs.declared.ended.Ended.TheVariants as ended, proofs.Statuses.{has-status, words-status}}
-use Rattle.rm_tool_standby.proofs.{Statuses.{done-at, leaves-at, of-bad, of-none, one-task}, run.run_standby.Goals as goal}
+use Rattle.rm_tool_ends.proofs.Statuses.{has-status, words-status}
+use Rattle.rm_tool_ends.specs.declared.ended.Ended.TheVariants as ended
+use Rattle.rm_tool_standby.proofs.Statuses.{done-at, leaves-at, of-bad, of-none, one-task}
+use Rattle.rm_tool_standby.proofs.run.run_standby.Goals as goal
 
 pub returns-in-Err-Bad-clause-statuses : goal.returns-in-Err-Bad-clause-statuses
 returns-in-Err-Bad-clause-statuses g c = words-status c.refuse_words.result c.refuse_words.ensures.statuses

@@ -1,6 +1,7 @@
 use Rattle.std.proofs.Common.{rules, ◌≡◌, ◌<◌, get_or, length, subst, sym}
 use Rattle.rm_piece.{specs.Sets.{IsMember}, proofs.Fitting.{few_rows}}
-use Rattle.rm_tool_standby.proofs.{MembersTold.{next-member}, telling.dump_lines.Goals as goal}
+use Rattle.rm_tool_standby.proofs.MembersTold.{next-member}
+use Rattle.rm_tool_standby.proofs.telling.dump_lines.Goals as goal
 
 pub push_member-requires : goal.push_member-requires
 push_member-requires c =

@@ -1,6 +1,7 @@
 use Rattle.std.{specs.{Cmp.Lexicographic.{slice_cmp}, Ordering.{nat_cmp}}, proofs.Common.{◌∙◌, List, ℕ, of_calls, rules}}
 use Rattle.std.proofs.lemmas.Fn.{always_returns_same}
-use Rattle.rm_verify.proofs.{Among.{found-among}, crosschecking.is_among.Goals as goal}
+use Rattle.rm_verify.proofs.Among.{found-among}
+use Rattle.rm_verify.proofs.crosschecking.is_among.Goals as goal
 
 pub returns : goal.returns
 returns c =

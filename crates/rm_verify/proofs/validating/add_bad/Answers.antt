@@ -1,5 +1,6 @@
 use Rattle.std.proofs.{Common.{◌≡◌, ◌∙◌, map, rules, sym}, lemmas.Slice.Zip.{either_empty_from_Zip}}
-use Rattle.rm_verify.{specs.Told.{with_bad}, proofs.{Skipping.{ended}, validating.add_bad.Goals as goal}}
+use Rattle.rm_verify.{specs.Told.{with_bad}, proofs.Skipping.{ended}}
+use Rattle.rm_verify.proofs.validating.add_bad.Goals as goal
 
 pub returns : goal.returns
 returns c =

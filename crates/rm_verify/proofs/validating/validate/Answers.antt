@@ -1,6 +1,7 @@
 use Rattle.std.{specs.Slice.Iter.{chunks_rest}, proofs.Common.{◌≡◌, ◌∙◌, List, ap, arith, length, map, refl, rules, sym}}
 use Rattle.rm_evidence.specs.{Taking.{AreObjects}, declared.telling.Told.{Told}}
-use Rattle.rm_verify.{specs.Told.{with_bad}, proofs.{Skipping.{HasTold, told-end, told-none, told-part}, validating.validate.Goals as goal}}
+use Rattle.rm_verify.{specs.Told.{with_bad}, proofs.Skipping.{HasTold, told-end, told-none, told-part}}
+use Rattle.rm_verify.proofs.validating.validate.Goals as goal
 
 pub loop-part-init : goal.loop-part-init
 loop-part-init g c =

@@ -1,5 +1,6 @@
 use Rattle.std.{specs.Slice.Iter.{chunks_rest}, proofs.Common.{◌≡◌, ◌≤◌}}
-use Rattle.rm_verify.proofs.{Skipping.{HasTold}, validating.validate.Given as goal}
+use Rattle.rm_verify.proofs.Skipping.{HasTold}
+use Rattle.rm_verify.proofs.validating.validate.Given as goal
 
 abbrev pub invariant-loop-part : goal.invariant-loop-part
 invariant-loop-part g l = record {

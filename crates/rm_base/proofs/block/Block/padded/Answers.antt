@@ -1,5 +1,6 @@
 use Rattle.std.proofs.{Common.{◌∙◌, ◌++◌, ap, List, ℕ, drop, length, replicate}, lemmas.List.{drop-replicate}}
-use Rattle.rm_base.{specs.declared.block.Block.{Block}, proofs.block.Block.padded.Goals as goal}
+use Rattle.rm_base.specs.declared.block.Block.{Block}
+use Rattle.rm_base.proofs.block.Block.padded.Goals as goal
 
 pub returns : goal.returns
 returns c =

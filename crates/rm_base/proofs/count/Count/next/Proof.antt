@@ -15,8 +15,10 @@ use denote.Steps.{nothing}
 use denote.Struct.Struct.{within}
 use denote.Triple.Entry.{alive}
 use denote.Triple.Walked.{says, Stays, stay_dropped, Goes-dropped, walk_of, ends_at}
-use Rattle.rm_base.specs.contracts.count.{Count as Count, Count.{next as f, next.Key.{name as #self}}}
-use Rattle.rm_base.proofs.count.Count.next.{Code as code, Statement.{statement}}
+use Rattle.rm_base.{specs.contracts.count.Count.next.Key.{name as #self}, proofs.count.Count.next.Statement.{statement}}
+use Rattle.rm_base.specs.contracts.count.Count as Count
+use Rattle.rm_base.specs.contracts.count.Count.next as f
+use Rattle.rm_base.proofs.count.Count.next.Code as code
 
 abbrev stayed : Stays f.ended.signature.params f.ended.kept
 stayed = (stay_dropped (RefOf (0 ∷ []) tt (plain (λ _. Count.the_row)) (λ _. tt)) yes, tt)

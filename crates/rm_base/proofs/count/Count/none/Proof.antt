@@ -12,8 +12,10 @@ use denote.Steps.{nothing}
 use denote.Struct.Struct.{within}
 use denote.Triple.Entry.{alive}
 use denote.Triple.Walked.{says, Stays, walk_of, ends_at}
-use Rattle.rm_base.specs.contracts.count.{Count as Count, Count.{none as f, none.Key.{name as #self}}}
-use Rattle.rm_base.proofs.count.Count.none.{Code as code, Statement.{statement}}
+use Rattle.rm_base.{specs.contracts.count.Count.none.Key.{name as #self}, proofs.count.Count.none.Statement.{statement}}
+use Rattle.rm_base.specs.contracts.count.Count as Count
+use Rattle.rm_base.specs.contracts.count.Count.none as f
+use Rattle.rm_base.proofs.count.Count.none.Code as code
 
 abbrev stayed : Stays f.ended.signature.params f.ended.kept
 stayed = tt

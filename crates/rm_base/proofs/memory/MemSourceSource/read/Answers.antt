@@ -1,6 +1,7 @@
 use Rattle.std.specs.List.{slice_range}
 use Rattle.std.proofs.Common.{◌≡◌, ◌≤◌, ◌+◌, ◌-◌, ◌++◌, ◌∙◌, ℕ, List, Some, ap, sym, subst, take, drop, length, arith}
-use Rattle.rm_base.proofs.{Streams.{front-taken}, memory.MemSourceSource.read.Goals as goal}
+use Rattle.rm_base.proofs.Streams.{front-taken}
+use Rattle.rm_base.proofs.memory.MemSourceSource.read.Goals as goal
 
 pub returns-then-not-is_empty-clause-front : goal.returns-then-not-is_empty-clause-front
 returns-then-not-is_empty-clause-front c =

@@ -1,6 +1,7 @@
 use Rattle.std.proofs.Common.{List, sym, subst}
 use Rattle.rm_catalog.specs.{Keys.{InOrder}, Edits.{after_edits}, Rules.{IsValid, IsCatalog}, declared.record.Record.{Record}}
-use Rattle.rm_catalog.proofs.{Passing.{order_after_all}, catalog.Catalog.apply.Goals as goal}
+use Rattle.rm_catalog.proofs.Passing.{order_after_all}
+use Rattle.rm_catalog.proofs.catalog.Catalog.apply.Goals as goal
 
 pub tree_after-requires-clause-order : goal.tree_after-requires-clause-order
 tree_after-requires-clause-order c = subst (λ (x : List Record). InOrder x) (sym c.deref.ensures.value) c.self.invariant.catalog.order

@@ -1,6 +1,7 @@
 use Rattle.std.proofs.Common.{◌∙◌, List, sym, subst, rules}
 use Rattle.rm_catalog.specs.{Keys.{InOrder}, Rules.{IsCatalog, IsOrderOf, IsFirstBad}, declared.record.Record.{Record}}
-use Rattle.rm_catalog.proofs.{Unique.{one_order, none_valid}, Told.{one_told, one_key}, catalog.Catalog.from_records.Goals as goal}
+use Rattle.rm_catalog.proofs.{Unique.{one_order, none_valid}, Told.{one_told, one_key}}
+use Rattle.rm_catalog.proofs.catalog.Catalog.from_records.Goals as goal
 
 pub returns-in-Some-clause-only : goal.returns-in-Some-clause-only
 returns-in-Some-clause-only c s order valid =

@@ -1,6 +1,7 @@
 use Rattle.std.proofs.Common.{◌≡◌, [], ◌∷◌, ◌++◌, arith, rules, subst, sym}
 use Rattle.rm_catalog_typed.specs.{Facts.{IsTypedCatalog}, Fitting.{FitsNewLog}, TypedCatalog.{TypedCatalog}}
-use Rattle.rm_catalog_typed.proofs.{Changed.{follows_new_log}, Fitted.{new_log_fits}, catalog.TypedCatalog.add_log.Goals as goal}
+use Rattle.rm_catalog_typed.proofs.{Changed.{follows_new_log}, Fitted.{new_log_fits}}
+use Rattle.rm_catalog_typed.proofs.catalog.TypedCatalog.add_log.Goals as goal
 
 pub overflow_add-self : goal.overflow_add-self
 overflow_add-self c = let fits = subst (λ (r : TypedCatalog). FitsNewLog r c.args.log) (sym c.self.view_is) c.requires.fits in omega arith

@@ -1,5 +1,6 @@
 use Rattle.std.proofs.Common.{◌≡◌, [], ◌∷◌, ◌++◌, arith, rules}
-use Rattle.rm_catalog_typed.proofs.{Changed.{marks_few}, Fitted.{mark_fits}, catalog.TypedCatalog.add_mark.Goals as goal}
+use Rattle.rm_catalog_typed.proofs.{Changed.{marks_few}, Fitted.{mark_fits}}
+use Rattle.rm_catalog_typed.proofs.catalog.TypedCatalog.add_mark.Goals as goal
 
 pub overflow_cast-id : goal.overflow_cast-id
 overflow_cast-id c = let h = marks_few _ c.self.invariant in let l = c.len.ensures in omega arith

@@ -1,7 +1,8 @@
 use Rattle.std.proofs.Common.{◌≡◌, ◌+◌, ℕ, List, [], ◌∷◌, ◌++◌, rules, subst, sym}
 use Rattle.rm_catalog.specs.declared.record.PieceEntry.{PieceEntry}
 use Rattle.rm_catalog_typed.specs.{Facts.{IsTypedCatalog}, Fitting.{FitsNewPiece}, TypedCatalog.{TypedCatalog}}
-use Rattle.rm_catalog_typed.proofs.{Changed.{follows_new_piece}, Fitted.{new_piece_fits}, catalog.TypedCatalog.add_piece.Goals as goal}
+use Rattle.rm_catalog_typed.proofs.{Changed.{follows_new_piece}, Fitted.{new_piece_fits}}
+use Rattle.rm_catalog_typed.proofs.catalog.TypedCatalog.add_piece.Goals as goal
 
 pub invariant_of-self-2 : goal.invariant_of-self-2
 invariant_of-self-2 c =

@@ -1,7 +1,8 @@
 use Rattle.std.proofs.Common.{◌≡◌, ◌+◌, ℕ, List, [], ◌∷◌, ◌++◌, rules, subst, sym}
 use Rattle.rm_catalog.specs.declared.record.SetEntry.{SetEntry}
 use Rattle.rm_catalog_typed.specs.{Facts.{IsTypedCatalog}, Fitting.{FitsNewSet}, TypedCatalog.{TypedCatalog}}
-use Rattle.rm_catalog_typed.proofs.{Changed.{follows_new_set}, Fitted.{new_set_fits}, catalog.TypedCatalog.add_set.Goals as goal}
+use Rattle.rm_catalog_typed.proofs.{Changed.{follows_new_set}, Fitted.{new_set_fits}}
+use Rattle.rm_catalog_typed.proofs.catalog.TypedCatalog.add_set.Goals as goal
 
 pub invariant_of-self-2 : goal.invariant_of-self-2
 invariant_of-self-2 c =

@@ -1,5 +1,6 @@
 use Rattle.std.proofs.Common.{◌≡◌, [], ◌∷◌, ◌++◌, arith, rules}
-use Rattle.rm_catalog_typed.proofs.{Changed.{switches_few}, Fitted.{switch_fits}, catalog.TypedCatalog.add_switch.Goals as goal}
+use Rattle.rm_catalog_typed.proofs.{Changed.{switches_few}, Fitted.{switch_fits}}
+use Rattle.rm_catalog_typed.proofs.catalog.TypedCatalog.add_switch.Goals as goal
 
 pub overflow_cast-id : goal.overflow_cast-id
 overflow_cast-id c = let h = switches_few _ c.self.invariant in let l = c.len.ensures in omega arith

@@ -1,6 +1,7 @@
 use Rattle.std.proofs.Common.{◌≡◌, ◌+◌, [], ◌∷◌, ◌++◌, arith, length, rules}
 use Rattle.rm_history.specs.Tree.{with_branch}
-use Rattle.rm_catalog_typed.proofs.{Changed.{marks_few}, Fitted.{branch_fits}, catalog.TypedCatalog.branch.Goals as goal}
+use Rattle.rm_catalog_typed.proofs.{Changed.{marks_few}, Fitted.{branch_fits}}
+use Rattle.rm_catalog_typed.proofs.catalog.TypedCatalog.branch.Goals as goal
 
 pub overflow_cast-id : goal.overflow_cast-id
 overflow_cast-id c = let h = marks_few _ c.self.invariant in let l = c.len.ensures in omega arith

@@ -1,5 +1,6 @@
 use Rattle.std.proofs.Common.{◌≡◌, rules}
-use Rattle.rm_catalog_typed.{specs.Fresh.{fresh}, proofs.{Fresh.{fresh_is_ledger}, catalog.TypedCatalog.fresh.Goals as goal}}
+use Rattle.rm_catalog_typed.{specs.Fresh.{fresh}, proofs.Fresh.{fresh_is_ledger}}
+use Rattle.rm_catalog_typed.proofs.catalog.TypedCatalog.fresh.Goals as goal
 
 pub invariant_of-result : goal.invariant_of-result
 invariant_of-result c =

@@ -2,7 +2,8 @@ use Rattle.std.proofs.Common.{◌≡◌, [], ◌∷◌, ◌++◌, ap, rules, sub
 use Rattle.rm_catalog.specs.declared.record.Edit.TheVariants.{Put}
 use Rattle.rm_history.specs.Tree.{parent_of, reset_of, with_end}
 use Rattle.rm_catalog_typed.specs.{Ledger.{incarnation_record}, Facts.{IsTypedCatalog}, TypedCatalog.{TypedCatalog}}
-use Rattle.rm_catalog_typed.proofs.{Changed.{follows_end}, Fitted.{end_fits}, catalog.TypedCatalog.raise_end.Goals as goal}
+use Rattle.rm_catalog_typed.proofs.{Changed.{follows_end}, Fitted.{end_fits}}
+use Rattle.rm_catalog_typed.proofs.catalog.TypedCatalog.raise_end.Goals as goal
 
 pub invariant_of-self : goal.invariant_of-self
 invariant_of-self c =

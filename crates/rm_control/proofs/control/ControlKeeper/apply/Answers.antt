@@ -1,6 +1,7 @@
 use Rattle.std.proofs.Common.{sym, subst}
-use Rattle.rm_control.proofs.{Following.{IsReady, followed_added, ready_sent, ready_still}, control.ControlKeeper.apply.Goals as goal}
+use Rattle.rm_control.proofs.Following.{IsReady, followed_added, ready_sent, ready_still}
 use Rattle.rm_control.proofs.control.ControlKeeper.apply.Goals.{then-self+in_ok-send, else-self}
+use Rattle.rm_control.proofs.control.ControlKeeper.apply.Goals as goal
 
 pub invariant_of-self-2 : goal.invariant_of-self-2
 invariant_of-self-2 g c =

@@ -1,6 +1,7 @@
 use Rattle.std.{specs.Option.{option_map_or}, proofs.Common.{◌≡◌, ◌≤◌, ◌++◌, ◌∷◌, [], ◌∙◌, ap, sym, subst, arith, refl, inl, inr, List}}
 use Rattle.rm_history.specs.{Tree.{IsTree, IsThere, reset_of, end_of, branched}, declared.tree.Incarnation.{Incarnation}}
-use Rattle.rm_history.proofs.{Branches.{IsTree-with_branch}, tree.Tree.branch.Goals as goal}
+use Rattle.rm_history.proofs.Branches.{IsTree-with_branch}
+use Rattle.rm_history.proofs.tree.Tree.branch.Goals as goal
 
 pub invariant_of-self-2 : goal.invariant_of-self-2
 invariant_of-self-2 c =

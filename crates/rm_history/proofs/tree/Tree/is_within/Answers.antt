@@ -1,5 +1,6 @@
 use Rattle.std.proofs.Common.{◌≡◌, sym, true, false, refl}
-use Rattle.rm_history.proofs.{Segments.{is_within_some, is_within_none}, tree.Tree.is_within.Goals as goal}
+use Rattle.rm_history.proofs.Segments.{is_within_some, is_within_none}
+use Rattle.rm_history.proofs.tree.Tree.is_within.Goals as goal
 
 pub returns-in-Some : goal.returns-in-Some
 returns-in-Some c = is_within_some c.args.self.now c.args.j c.args.i c.args.high c.in-Some.end (c.in-Some.ensures.some.0 refl).1 (sym c.in-Some.ensures.value)

@@ -1,7 +1,8 @@
 use Rattle.std.proofs.Common.{◌≡◌, ◌∙◌, inl, inr, subst, sym, ap, IsSome, refl}
 use Rattle.rm_history.{specs.Tree.{IsThere, HasParentsBelow, segment_end}, proofs.Owners.{parent-outside}}
-use Rattle.rm_history.proofs.{Paths.{no_ancestor, segment_end-absent, segment_end-some}, tree.Tree.segment_end.Goals as goal}
+use Rattle.rm_history.proofs.Paths.{no_ancestor, segment_end-absent, segment_end-some}
 use Rattle.rm_history.proofs.tree.Tree.segment_end.Goals.{then-j-eq0-via-then-j-eq0, then-j-eq0-via-else-j-eq0+then-not-is_there}
+use Rattle.rm_history.proofs.tree.Tree.segment_end.Goals as goal
 
 pub returns-then-j-eq0-clause-value : goal.returns-then-j-eq0-clause-value
 returns-then-j-eq0-clause-value c =

@@ -1,6 +1,7 @@
 use Rattle.std.{specs.Option.{option_map_or}, proofs.Common.{◌≡◌, ◌-◌, ◌∙◌, ℕ, List, ap, sym, subst, refl, slice_set}}
 use Rattle.rm_history.specs.{Tree.{IsTree, IsThere, parent_of, reset_of}, declared.tree.Incarnation.{Incarnation}}
-use Rattle.rm_history.proofs.{Ends.{IsTree-with_end}, tree.Tree.set_end.Goals as goal}
+use Rattle.rm_history.proofs.Ends.{IsTree-with_end}
+use Rattle.rm_history.proofs.tree.Tree.set_end.Goals as goal
 
 pub invariant_of-self : goal.invariant_of-self
 invariant_of-self c =

@@ -1,5 +1,6 @@
 use Rattle.std.proofs.Common.{◌∙◌, true, false, sym, ap}
-use Rattle.rm_history.{specs.Tree.{is_on_path}, proofs.{Paths.{standing-current, standing-other}, tree.Tree.standing.Goals as goal}}
+use Rattle.rm_history.{specs.Tree.{is_on_path}, proofs.Paths.{standing-current, standing-other}}
+use Rattle.rm_history.proofs.tree.Tree.standing.Goals as goal
 
 pub returns-then-i-current-clause-value : goal.returns-then-i-current-clause-value
 returns-then-i-current-clause-value c = standing-current c.args.self.now c.args.i c.args.current c.if-i-current.true

@@ -1,5 +1,6 @@
 use Rattle.std.proofs.Common.{◌≡◌, ◌<◌, ℕ, None, length, slice_index_or}
-use Rattle.rm_history.{specs.State.{concerns, latest}, proofs.{States.{latest-on}, world.World.last_changes.Given as goal}}
+use Rattle.rm_history.{specs.State.{concerns, latest}, proofs.States.{latest-on}}
+use Rattle.rm_history.proofs.world.World.last_changes.Given as goal
 
 -- what is left to be noted, on top of what was noted, is the last change of each block
 abbrev pub invariant-loop-change : goal.invariant-loop-change

@@ -1,5 +1,6 @@
 use Rattle.std.proofs.Common.{◌≡◌}
-use Rattle.rm_history.{specs.State.{concerns, latest}, proofs.{States.{latest-on}, world.World.state.Given as goal}}
+use Rattle.rm_history.{specs.State.{concerns, latest}, proofs.States.{latest-on}}
+use Rattle.rm_history.proofs.world.World.state.Given as goal
 
 abbrev pub invariant-loop-change : goal.invariant-loop-change
 invariant-loop-change l =

@@ -1,7 +1,8 @@
 use Rattle.std.proofs.Common.{rules, ◌≡◌, ◌+◌, ◌++◌, ◌∷◌, [], ◌∙◌, ℕ, List, Option, ap, sym, arith, ◌<◌, None, zero-add}
 use Rattle.std.proofs.lemmas.List.{get_or_default}
 use Rattle.rm_base.specs.declared.block.{Change.{Change}, Row.{Row}}
-use Rattle.rm_history.{specs.State.{concerns, latest, row_of, state}, proofs.{BlockRows.{rows_from-push}, world.World.states.Goals as goal}}
+use Rattle.rm_history.{specs.State.{concerns, latest, row_of, state}, proofs.BlockRows.{rows_from-push}}
+use Rattle.rm_history.proofs.world.World.states.Goals as goal
 
 pub loop-block-preserved : goal.loop-block-preserved
 loop-block-preserved c =

@@ -1,5 +1,6 @@
 use Rattle.std.proofs.Common.{◌≡◌}
-use Rattle.rm_history.{specs.State.{states}, proofs.world.World.states.Given as goal}
+use Rattle.rm_history.specs.State.{states}
+use Rattle.rm_history.proofs.world.World.states.Given as goal
 
 -- the rows of the blocks so far
 abbrev pub invariant-loop-block : goal.invariant-loop-block

@@ -1,6 +1,7 @@
 use Rattle.std.proofs.{Common.{◌≡◌, ◌∙◌, ◌+◌, ◌++◌, ◌∷◌, [], take, sym, ap}, lemmas.List.{take_more}}
 use Rattle.rm_catalog.specs.declared.record.Edit.{Edit}
-use Rattle.rm_keeper_sql.proofs.{Telltale.{one_more}, log.Log.and.Goals as goal}
+use Rattle.rm_keeper_sql.proofs.Telltale.{one_more}
+use Rattle.rm_keeper_sql.proofs.log.Log.and.Goals as goal
 
 pub loop-edit-preserved : goal.loop-edit-preserved
 loop-edit-preserved c =

@@ -16,8 +16,10 @@ use denote.Struct.Struct.{within}
 use denote.Triple.Entry.{alive}
 use denote.Triple.Walked.{says, Stays, stay_dropped, Goes-dropped, walk_of, ends_at}
 use Rattle.rm_catalog.specs.contracts.record.Edit as Edit
-use Rattle.rm_keeper_sql.{specs.contracts.log.{Log as Log, Log.{next as f, next.Key.{name as #self}}}, proofs.log.Log.next.{Code as code}}
-use Rattle.rm_keeper_sql.proofs.log.Log.next.Statement.{statement}
+use Rattle.rm_keeper_sql.{specs.contracts.log.Log.next.Key.{name as #self}, proofs.log.Log.next.Statement.{statement}}
+use Rattle.rm_keeper_sql.specs.contracts.log.Log as Log
+use Rattle.rm_keeper_sql.specs.contracts.log.Log.next as f
+use Rattle.rm_keeper_sql.proofs.log.Log.next.Code as code
 
 abbrev stayed : Stays f.ended.signature.params f.ended.kept
 stayed = (

@@ -12,8 +12,10 @@ use denote.Steps.{nothing}
 use denote.Struct.Struct.{within}
 use denote.Triple.Entry.{alive}
 use denote.Triple.Walked.{says, Stays, walk_of, ends_at}
-use Rattle.rm_keeper_sql.{specs.contracts.log.{Log as Log, Log.{none as f, none.Key.{name as #self}}}, proofs.log.Log.none.{Code as code}}
-use Rattle.rm_keeper_sql.proofs.log.Log.none.Statement.{statement}
+use Rattle.rm_keeper_sql.{specs.contracts.log.Log.none.Key.{name as #self}, proofs.log.Log.none.Statement.{statement}}
+use Rattle.rm_keeper_sql.specs.contracts.log.Log as Log
+use Rattle.rm_keeper_sql.specs.contracts.log.Log.none as f
+use Rattle.rm_keeper_sql.proofs.log.Log.none.Code as code
 
 abbrev stayed : Stays f.ended.signature.params f.ended.kept
 stayed = tt

@@ -1,6 +1,7 @@
 use Rattle.std.proofs.Common.{sym, subst}
 use Rattle.sqlite.specs.Held.{Held}
-use Rattle.rm_keeper_sql.{specs.Known.{Known}, proofs.told.ToldKeeper.choose.Goals as goal}
+use Rattle.rm_keeper_sql.specs.Known.{Known}
+use Rattle.rm_keeper_sql.proofs.told.ToldKeeper.choose.Goals as goal
 
 pub invariant_of-self : goal.invariant_of-self
 invariant_of-self g c = record {

@@ -1,5 +1,6 @@
 use Rattle.std.proofs.Common.{◌<◌, length, arith, append_assoc}
-use Rattle.rm_lang_grammar.proofs.{Listed.{more_push}, spelling.Spelling.more_numbers.Goals as goal}
+use Rattle.rm_lang_grammar.proofs.Listed.{more_push}
+use Rattle.rm_lang_grammar.proofs.spelling.Spelling.more_numbers.Goals as goal
 
 pub loop-number-preserved : goal.loop-number-preserved
 loop-number-preserved c =

@@ -1,6 +1,7 @@
 use Rattle.std.proofs.{Common.{◌≡◌, ◌∙◌, List, Some, None, refl, ap, sym, length, position}, lemmas.Option.{slice_get_read}}
 use Rattle.rm_blocks.specs.File.{File}
-use Rattle.rm_live.proofs.{Files.{is_file, place-some, row_at-some, row_at-none}, database.Database.read.Goals as goal}
+use Rattle.rm_live.proofs.Files.{is_file, place-some, row_at-some, row_at-none}
+use Rattle.rm_live.proofs.database.Database.read.Goals as goal
 
 pub returns-in_err-k : goal.returns-in_err-k
 returns-in_err-k c =

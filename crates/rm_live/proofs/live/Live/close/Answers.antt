@@ -1,5 +1,6 @@
 use Rattle.std.proofs.Common.{length, ap, sym, ◌∙◌}
-use Rattle.rm_live.{specs.{History.{fold_of}, Passes.{Standing}}, proofs.{Edges.{closes}, live.Live.close.Goals as goal}}
+use Rattle.rm_live.{specs.{History.{fold_of}, Passes.{Standing}}, proofs.Edges.{closes}}
+use Rattle.rm_live.proofs.live.Live.close.Goals as goal
 
 pub returns : goal.returns
 returns c =

@@ -1,5 +1,6 @@
 use Rattle.std.proofs.Common.{◌∙◌, sym, arith}
-use Rattle.rm_live.proofs.{Steps.{ends_as}, live.Live.end_turn.Goals as goal}
+use Rattle.rm_live.proofs.Steps.{ends_as}
+use Rattle.rm_live.proofs.live.Live.end_turn.Goals as goal
 
 pub fetch_add-requires : goal.fetch_add-requires
 fetch_add-requires g c =

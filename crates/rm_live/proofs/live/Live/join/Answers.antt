@@ -1,5 +1,6 @@
 use Rattle.std.proofs.Common.{◌<◌, ℕ, List, length, ap, sym, ◌∙◌, arith, subst}
-use Rattle.rm_live.{specs.{Passes.{Standing}, Ruled.{Sat}}, proofs.{Seats.{joins, meets, more}, live.Live.join.Goals as goal}}
+use Rattle.rm_live.{specs.{Passes.{Standing}, Ruled.{Sat}}, proofs.Seats.{joins, meets, more}}
+use Rattle.rm_live.proofs.live.Live.join.Goals as goal
 
 pub join_seat-requires : goal.join_seat-requires
 join_seat-requires c =

@@ -1,7 +1,8 @@
 use Rattle.std.proofs.Common.{rules, sym, arith, ◌≡◌, ◌∷◌, [], List, subst, Some}
 use Rattle.atomic_table.specs.Table.{opening}
 use Rattle.rm_live.specs.{Parts.{IsSound, parts_of}, Ruled.{Ruled, resting, upto}, declared.database.Database.{Database}}
-use Rattle.rm_live.proofs.{Edges.{begins}, live.Live.open.Goals as goal}
+use Rattle.rm_live.proofs.Edges.{begins}
+use Rattle.rm_live.proofs.live.Live.open.Goals as goal
 
 pub new-requires : goal.new-requires
 new-requires c =

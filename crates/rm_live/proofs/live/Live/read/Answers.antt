@@ -1,7 +1,8 @@
 use Rattle.std.proofs.Common.{refl, ap, sym, ◌∙◌, ◌∷◌, subst}
 use Rattle.atomic_table.specs.Table.{rest}
 use Rattle.rm_live.specs.{Passes.{Standing, standing}, declared.history.{Answer.{Answer, TheVariants.{Found}}, Call.{Call}}}
-use Rattle.rm_live.{specs.declared.history.Call.TheVariants.{Read}, proofs.{Turns.{IsAdded, turn_is, adds}, live.Live.read.Goals as goal}}
+use Rattle.rm_live.{specs.declared.history.Call.TheVariants.{Read}, proofs.Turns.{IsAdded, turn_is, adds}}
+use Rattle.rm_live.proofs.live.Live.read.Goals as goal
 
 pub slot_mut-database-requires : goal.slot_mut-database-requires
 slot_mut-database-requires g c =

@@ -1,5 +1,6 @@
 use Rattle.std.proofs.Common.{◌≤◌, length, ap, sym, ◌∙◌, arith, subst}
-use Rattle.rm_live.{specs.Passes.{Standing}, proofs.{Seats.{splits}, live.Live.split.Goals as goal}}
+use Rattle.rm_live.{specs.Passes.{Standing}, proofs.Seats.{splits}}
+use Rattle.rm_live.proofs.live.Live.split.Goals as goal
 
 pub split_seat-place-requires : goal.split_seat-place-requires
 split_seat-place-requires c =

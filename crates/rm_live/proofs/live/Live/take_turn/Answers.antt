@@ -1,7 +1,8 @@
 use Rattle.std.proofs.Common.{ap, ◌∙◌, arith, sym}
 use mathlib.Core.Option.{none}
 use Rattle.atomic_table.specs.Table.{step}
-use Rattle.rm_live.{specs.Ruled.{Sat}, proofs.{Steps.{draws, looks, turned}, live.Live.take_turn.Goals as goal}}
+use Rattle.rm_live.{specs.Ruled.{Sat}, proofs.Steps.{draws, looks, turned}}
+use Rattle.rm_live.proofs.live.Live.take_turn.Goals as goal
 
 pub fetch_add-ticket-requires : goal.fetch_add-ticket-requires
 fetch_add-ticket-requires g c =

@@ -1,5 +1,6 @@
 use Rattle.std.proofs.Common.{◌≡◌, ℕ, ◌%◌, []}
-use Rattle.rm_live.{specs.Ruled.{big, drew}, proofs.live.Live.take_turn.Given as goal}
+use Rattle.rm_live.specs.Ruled.{big, drew}
+use Rattle.rm_live.proofs.live.Live.take_turn.Given as goal
 
 abbrev pub invariant-loop : goal.invariant-loop
 invariant-loop g l =

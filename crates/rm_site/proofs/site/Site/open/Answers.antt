@@ -2,7 +2,8 @@ use Rattle.rm_catalog.specs.Rules.{IsValid}
 use Rattle.rm_catalog_typed.specs.TypedCatalog.{all_records}
 use Rattle.rm_site.specs.Faults.{IsBadFirst, fault_at, fault_in}
 use Rattle.rm_site.proofs.Opening.{of-kept, opened-none, opened-some, shows-none, shows-some, told-bad, told-err, told-valid}
-use Rattle.rm_site.proofs.site.Site.open.{Goals as goal, Goals.{in-Some+in_ok-load_place-in-Some, in-None}}
+use Rattle.rm_site.proofs.site.Site.open.Goals.{in-Some+in_ok-load_place-in-Some, in-None}
+use Rattle.rm_site.proofs.site.Site.open.Goals as goal
 use Rattle.std.specs.Prelude.{IfSome}
 
 pub returns-in_err-catalog-clause-bad : goal.returns-in_err-catalog-clause-bad

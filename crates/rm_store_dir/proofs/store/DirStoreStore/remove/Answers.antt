@@ -1,7 +1,8 @@
 use Rattle.std.{specs.{Option.{option_map}, Prelude.{IfSome}}, proofs.Common.{◌≡◌, sym, subst, rules, true, false, None}}
 use Rattle.rm_base.specs.Store.{Both, SameBut}
 use Rattle.rm_store_dir.specs.{DirStore.{is_object, objects_of, folder_of}, Folder.{MayHave}}
-use Rattle.rm_store_dir.proofs.{Objects.{now_has, none_gone, others_stay}, store.DirStoreStore.remove.Goals as goal}
+use Rattle.rm_store_dir.proofs.Objects.{now_has, none_gone, others_stay}
+use Rattle.rm_store_dir.proofs.store.DirStoreStore.remove.Goals as goal
 
 pub returns-then-not-is_object-clause-gone : goal.returns-then-not-is_object-clause-gone
 returns-then-not-is_object-clause-gone g c =
