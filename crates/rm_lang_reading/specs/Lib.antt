@@ -4,6 +4,7 @@ pub mod Creating
 pub mod Mishaps
 pub mod Language
 pub mod Modes
+pub mod Phrases
 pub mod Recovering
 pub mod Repairs
 pub mod Settings

@@ -3,9 +3,9 @@ ghost use Rattle.rm_lang_grammar.specs.{Reading.{Gives}, Forms.{command_by, comm
 ghost use Rattle.rm_lang_reading.specs.Asking.{report_obsolete, report_need_backup, report_schema, list_incarnation, list_backup, list_copy, list_archived, list_corruption, show, dump};
 ghost use Rattle.rm_lang_reading.specs.Language.{asking_forms};
 
+use crate::phrases::{block, phrase};
 use crate::settings::setting;
 use rm_lang_grammar::Unread;
-use rm_lang_grammar::reading::{number, semicolon, word};
 use rm_lang_statement::Command;
 use rm_lang_token::Token;
 use std::alloc::Global;
@@ -14,7 +14,7 @@ use std::alloc::Global;
 fn report_obsolete(tokens: &[Token]) -> Result<(Command, &[Token]), Unread>
     ensures { Gives (λ x. (x.0, x.1.now)) result (command_by report_obsolete tokens.now) }
 {
-    let rest = semicolon(word(word(tokens, b"REPORT")?, b"OBSOLETE")?)?;
+    let rest = phrase(tokens, &["REPORT", "OBSOLETE"])?;
     Ok((Command::ReportObsolete, rest))
 }
 
@@ -22,8 +22,7 @@ fn report_obsolete(tokens: &[Token]) -> Result<(Command, &[Token]), Unread>
 fn report_need_backup(tokens: &[Token]) -> Result<(Command, &[Token]), Unread>
     ensures { Gives (λ x. (x.0, x.1.now)) result (command_by report_need_backup tokens.now) }
 {
-    let rest = word(word(tokens, b"REPORT")?, b"NEED")?;
-    let rest = semicolon(word(rest, b"BACKUP")?)?;
+    let rest = phrase(tokens, &["REPORT", "NEED", "BACKUP"])?;
     Ok((Command::ReportNeedBackup, rest))
 }
 
@@ -31,7 +30,7 @@ fn report_need_backup(tokens: &[Token]) -> Result<(Command, &[Token]), Unread>
 fn report_schema(tokens: &[Token]) -> Result<(Command, &[Token]), Unread>
     ensures { Gives (λ x. (x.0, x.1.now)) result (command_by report_schema tokens.now) }
 {
-    let rest = semicolon(word(word(tokens, b"REPORT")?, b"SCHEMA")?)?;
+    let rest = phrase(tokens, &["REPORT", "SCHEMA"])?;
     Ok((Command::ReportSchema, rest))
 }
 
@@ -39,7 +38,7 @@ fn report_schema(tokens: &[Token]) -> Result<(Command, &[Token]), Unread>
 fn list_incarnation(tokens: &[Token]) -> Result<(Command, &[Token]), Unread>
     ensures { Gives (λ x. (x.0, x.1.now)) result (command_by list_incarnation tokens.now) }
 {
-    let rest = semicolon(word(word(tokens, b"LIST")?, b"INCARNATION")?)?;
+    let rest = phrase(tokens, &["LIST", "INCARNATION"])?;
     Ok((Command::ListIncarnation, rest))
 }
 
@@ -47,7 +46,7 @@ fn list_incarnation(tokens: &[Token]) -> Result<(Command, &[Token]), Unread>
 fn list_backup(tokens: &[Token]) -> Result<(Command, &[Token]), Unread>
     ensures { Gives (λ x. (x.0, x.1.now)) result (command_by list_backup tokens.now) }
 {
-    let rest = semicolon(word(word(tokens, b"LIST")?, b"BACKUP")?)?;
+    let rest = phrase(tokens, &["LIST", "BACKUP"])?;
     Ok((Command::ListBackup, rest))
 }
 
@@ -55,7 +54,7 @@ fn list_backup(tokens: &[Token]) -> Result<(Command, &[Token]), Unread>
 fn list_copy(tokens: &[Token]) -> Result<(Command, &[Token]), Unread>
     ensures { Gives (λ x. (x.0, x.1.now)) result (command_by list_copy tokens.now) }
 {
-    let rest = semicolon(word(word(tokens, b"LIST")?, b"COPY")?)?;
+    let rest = phrase(tokens, &["LIST", "COPY"])?;
     Ok((Command::ListCopy, rest))
 }
 
@@ -63,8 +62,7 @@ fn list_copy(tokens: &[Token]) -> Result<(Command, &[Token]), Unread>
 fn list_archived(tokens: &[Token]) -> Result<(Command, &[Token]), Unread>
     ensures { Gives (λ x. (x.0, x.1.now)) result (command_by list_archived tokens.now) }
 {
-    let rest = word(word(tokens, b"LIST")?, b"ARCHIVELOG")?;
-    let rest = semicolon(word(rest, b"ALL")?)?;
+    let rest = phrase(tokens, &["LIST", "ARCHIVELOG", "ALL"])?;
     Ok((Command::ListArchived, rest))
 }
 
@@ -72,7 +70,7 @@ fn list_archived(tokens: &[Token]) -> Result<(Command, &[Token]), Unread>
 fn list_corruption(tokens: &[Token]) -> Result<(Command, &[Token]), Unread>
     ensures { Gives (λ x. (x.0, x.1.now)) result (command_by list_corruption tokens.now) }
 {
-    let rest = semicolon(word(word(tokens, b"LIST")?, b"CORRUPTION")?)?;
+    let rest = phrase(tokens, &["LIST", "CORRUPTION"])?;
     Ok((Command::ListCorruption, rest))
 }
 
@@ -80,7 +78,7 @@ fn list_corruption(tokens: &[Token]) -> Result<(Command, &[Token]), Unread>
 fn show(tokens: &[Token]) -> Result<(Command, &[Token]), Unread>
     ensures { Gives (λ x. (x.0, x.1.now)) result (command_by show tokens.now) }
 {
-    let rest = semicolon(word(word(tokens, b"SHOW")?, b"ALL")?)?;
+    let rest = phrase(tokens, &["SHOW", "ALL"])?;
     Ok((Command::ShowAll, rest))
 }
 
@@ -88,9 +86,7 @@ fn show(tokens: &[Token]) -> Result<(Command, &[Token]), Unread>
 fn dump(tokens: &[Token]) -> Result<(Command, &[Token]), Unread>
     ensures { Gives (λ x. (x.0, x.1.now)) result (command_by dump tokens.now) }
 {
-    let (file, rest) = number(word(word(tokens, b"DUMP")?, b"DATAFILE")?)?;
-    let (block, rest) = number(word(rest, b"BLOCK")?)?;
-    let rest = semicolon(rest)?;
+    let ((file, block), rest) = block(tokens, &["DUMP", "DATAFILE"])?;
     Ok((Command::Dump { file, block }, rest))
 }
 

@@ -7,6 +7,7 @@ ghost use Rattle.rm_lang_reading.specs.Values.{write_values, kind_values, level_
 ghost use Rattle.rm_lang_reading.specs.Language.{backup_forms};
 
 use crate::creating::write_part;
+use crate::phrases::{after, phrase, words};
 use crate::upkeep::upkeep;
 use rm_base::{Seq, Text};
 use rm_lang_grammar::Unread;
@@ -43,12 +44,11 @@ pub enum Increment {
 fn optional_kind(tokens: &[Token]) -> Result<(Option<BackupAs>, &[Token]), Unread>
     ensures { Gives (λ x. (option_map kind_values x.0, x.1.now)) result (maybe (begins as_line tokens.now) (read as_line tokens.now) tokens.now) }
 {
-    if !begins_with(tokens, b"AS") {
+    let Some(rest) = after(tokens, b"AS") else {
         return Ok((None, tokens));
-    }
-    let rest = word(tokens, b"AS")?;
-    if begins_with(rest, b"COPY") {
-        return Ok((Some(BackupAs::Copy), word(rest, b"COPY")?));
+    };
+    if let Some(rest) = after(rest, b"COPY") {
+        return Ok((Some(BackupAs::Copy), rest));
     }
     Ok((Some(BackupAs::Sets), word(rest, b"BACKUPSET")?))
 }
@@ -81,7 +81,7 @@ fn level_or_scn(tokens: &[Token]) -> Result<(Increment, &[Token]), Unread>
         let (level, rest) = level_part(tokens)?;
         return Ok((Increment::Level(level), rest));
     }
-    let (scn, rest) = number(word(word(tokens, b"FROM")?, b"SCN")?)?;
+    let (scn, rest) = number(words(tokens, &["FROM", "SCN"])?)?;
     Ok((Increment::From(scn), rest))
 }
 
@@ -89,10 +89,10 @@ fn level_or_scn(tokens: &[Token]) -> Result<(Increment, &[Token]), Unread>
 fn optional_increment(tokens: &[Token]) -> Result<(Option<Increment>, &[Token]), Unread>
     ensures { Gives (λ x. (option_map increment_values x.0, x.1.now)) result (maybe (begins increment_line tokens.now) (read increment_line tokens.now) tokens.now) }
 {
-    if !begins_with(tokens, b"INCREMENTAL") {
+    let Some(rest) = after(tokens, b"INCREMENTAL") else {
         return Ok((None, tokens));
-    }
-    let (increment, rest) = level_or_scn(word(tokens, b"INCREMENTAL")?)?;
+    };
+    let (increment, rest) = level_or_scn(rest)?;
     Ok((Some(increment), rest))
 }
 
@@ -118,12 +118,11 @@ fn is_cumulative(increment: Option<Increment>) -> bool
 fn optional_merge(alloc: Global, tokens: &[Token]) -> Result<(Option<Text>, &[Token]), Unread>
     ensures { Gives (λ x. (option_map merge_values x.0, x.1.now)) result (maybe (begins merge_line tokens.now) (read merge_line tokens.now) tokens.now) }
 {
-    if !begins_with(tokens, b"FOR") {
+    let Some(rest) = after(tokens, b"FOR") else {
         return Ok((None, tokens));
-    }
-    let rest = word(word(tokens, b"FOR")?, b"RECOVER")?;
-    let rest = word(word(rest, b"OF")?, b"COPY")?;
-    let (name, rest) = tag(alloc, word(rest, b"WITH")?)?;
+    };
+    let rest = words(rest, &["RECOVER", "OF", "COPY", "WITH"])?;
+    let (name, rest) = tag(alloc, rest)?;
     Ok((Some(name), rest))
 }
 
@@ -131,8 +130,8 @@ fn optional_merge(alloc: Global, tokens: &[Token]) -> Result<(Option<Text>, &[To
 fn named_files(alloc: Global, tokens: &[Token]) -> Result<(Option<Seq<u64>>, &[Token]), Unread>
     ensures { Gives (λ x. (files_values x.0, x.1.now)) result (one_of (begins database_line tokens.now) (read database_line tokens.now) (read files_line tokens.now)) }
 {
-    if begins_with(tokens, b"DATABASE") {
-        return Ok((None, word(tokens, b"DATABASE")?));
+    if let Some(rest) = after(tokens, b"DATABASE") {
+        return Ok((None, rest));
     }
     let (files, rest) = numbers(alloc, word(tokens, b"DATAFILE")?)?;
     Ok((Some(files), rest))
@@ -152,10 +151,10 @@ pub fn in_order(numbers: Seq<u64>) -> Seq<u64>
 fn optional_sets(tokens: &[Token]) -> Result<(Option<u8>, &[Token]), Unread>
     ensures { Gives (λ x. (option_map sets_values x.0, x.1.now)) result (maybe (begins sets_line tokens.now) (read sets_line tokens.now) tokens.now) }
 {
-    if !begins_with(tokens, b"FILESPERSET") {
+    let Some(rest) = after(tokens, b"FILESPERSET") else {
         return Ok((None, tokens));
-    }
-    let (number, rest) = number_in(word(tokens, b"FILESPERSET")?, 1, 64)?;
+    };
+    let (number, rest) = number_in(rest, 1, 64)?;
     Ok((Some(number as u8), rest))
 }
 
@@ -174,11 +173,10 @@ fn optional_tag(alloc: Global, tokens: &[Token]) -> Result<(Option<Text>, &[Toke
 fn optional_keep(tokens: &[Token]) -> Result<(bool, &[Token]), Unread>
     ensures { Gives (λ x. (keep_values x.0, x.1.now)) result (maybe (begins keep_line tokens.now) (read keep_line tokens.now) tokens.now) }
 {
-    if !begins_with(tokens, b"KEEP") {
+    let Some(rest) = after(tokens, b"KEEP") else {
         return Ok((false, tokens));
-    }
-    let rest = word(word(tokens, b"KEEP")?, b"FOREVER")?;
-    Ok((true, rest))
+    };
+    Ok((true, word(rest, b"FOREVER")?))
 }
 
 // WRITE and its parts.
@@ -219,10 +217,10 @@ pub fn optional_during(
 ) -> Result<(Option<Seq<WriteForm>>, &[Token]), Unread>
     ensures { Gives (λ x. (option_map during_values x.0, x.1.now)) result (maybe (begins during_line tokens.now) (read during_line tokens.now) tokens.now) }
 {
-    if !begins_with(tokens, b"DURING") {
+    let Some(rest) = after(tokens, b"DURING") else {
         return Ok((None, tokens));
-    }
-    let (writes, rest) = writes(alloc, sign(word(tokens, b"DURING")?, b'{')?)?;
+    };
+    let (writes, rest) = writes(alloc, sign(rest, b'{')?)?;
     Ok((Some(writes), sign(rest, b'}')?))
 }
 
@@ -316,8 +314,7 @@ fn backup(alloc: Global, tokens: &[Token]) -> Result<(Command, &[Token]), Unread
 fn backup_logs(tokens: &[Token]) -> Result<(Command, &[Token]), Unread>
     ensures { Gives (λ x. (x.0, x.1.now)) result (command_by backup_logs tokens.now) }
 {
-    let rest = word(word(tokens, b"BACKUP")?, b"ARCHIVELOG")?;
-    let rest = semicolon(word(rest, b"ALL")?)?;
+    let rest = phrase(tokens, &["BACKUP", "ARCHIVELOG", "ALL"])?;
     Ok((Command::BackupLogs, rest))
 }
 

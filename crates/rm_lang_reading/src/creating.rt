@@ -4,11 +4,10 @@ ghost use Rattle.rm_lang_reading.specs.Creating.{create_database, write_part, wr
 ghost use Rattle.rm_lang_reading.specs.{Values.{write_values}, Language.{switch_forms, forms}};
 
 use crate::modes::mode;
+use crate::phrases::{counted, numbered, phrase, words};
 use rm_base::{Block, LAST_SCN};
 use rm_lang_grammar::Unread;
-use rm_lang_grammar::reading::{
-    number, number_in, number_in_or, number_or, semicolon, string, word,
-};
+use rm_lang_grammar::reading::{number, number_in_or, number_or, semicolon, string, word};
 use rm_lang_statement::{Command, WriteForm};
 use rm_lang_token::Token;
 use std::alloc::Global;
@@ -17,7 +16,7 @@ use std::alloc::Global;
 fn create_database(tokens: &[Token]) -> Result<(Command, &[Token]), Unread>
     ensures { Gives (λ x. (x.0, x.1.now)) result (command_by create_database tokens.now) }
 {
-    let rest = word(word(tokens, b"CREATE")?, b"DATABASE")?;
+    let rest = words(tokens, &["CREATE", "DATABASE"])?;
     let (dbid, rest) = number_in_or(rest, b"DBID", 1, 1, u32::MAX as u64)?;
     let (threads, rest) = number_in_or(rest, b"THREADS", 1, 1, u64::MAX)?;
     let (scn, rest) = number_in_or(rest, b"SCN", 1, 1, LAST_SCN)?;
@@ -60,9 +59,7 @@ fn write(tokens: &[Token]) -> Result<(Command, &[Token]), Unread>
 fn create_datafile(tokens: &[Token]) -> Result<(Command, &[Token]), Unread>
     ensures { Gives (λ x. (x.0, x.1.now)) result (command_by create_datafile tokens.now) }
 {
-    let rest = word(word(tokens, b"CREATE")?, b"DATAFILE")?;
-    let (blocks, rest) = number_in(word(rest, b"BLOCKS")?, 1, u64::MAX)?;
-    let rest = semicolon(rest)?;
+    let (blocks, rest) = counted(tokens, &["CREATE", "DATAFILE", "BLOCKS"])?;
     Ok((Command::CreateDatafile { blocks }, rest))
 }
 
@@ -70,8 +67,8 @@ fn create_datafile(tokens: &[Token]) -> Result<(Command, &[Token]), Unread>
 fn switch_logfile(tokens: &[Token]) -> Result<(Command, &[Token]), Unread>
     ensures { Gives (λ x. (x.0, x.1.now)) result (command_by switch_logfile tokens.now) }
 {
-    let rest = word(word(tokens, b"ALTER")?, b"SYSTEM")?;
-    let (thread, rest) = number_or(word(word(rest, b"SWITCH")?, b"LOGFILE")?, b"THREAD", 1)?;
+    let rest = words(tokens, &["ALTER", "SYSTEM", "SWITCH", "LOGFILE"])?;
+    let (thread, rest) = number_or(rest, b"THREAD", 1)?;
     let rest = semicolon(rest)?;
     Ok((Command::SwitchLogfile { thread }, rest))
 }
@@ -80,9 +77,7 @@ fn switch_logfile(tokens: &[Token]) -> Result<(Command, &[Token]), Unread>
 fn archive_log(tokens: &[Token]) -> Result<(Command, &[Token]), Unread>
     ensures { Gives (λ x. (x.0, x.1.now)) result (command_by archive_log tokens.now) }
 {
-    let rest = word(word(tokens, b"ALTER")?, b"SYSTEM")?;
-    let rest = word(word(rest, b"ARCHIVE")?, b"LOG")?;
-    let rest = semicolon(word(rest, b"CURRENT")?)?;
+    let rest = phrase(tokens, &["ALTER", "SYSTEM", "ARCHIVE", "LOG", "CURRENT"])?;
     Ok((Command::ArchiveLogCurrent, rest))
 }
 
@@ -90,9 +85,10 @@ fn archive_log(tokens: &[Token]) -> Result<(Command, &[Token]), Unread>
 fn track(tokens: &[Token]) -> Result<(Command, &[Token]), Unread>
     ensures { Gives (λ x. (x.0, x.1.now)) result (command_by track tokens.now) }
 {
-    let rest = word(word(tokens, b"ALTER")?, b"DATABASE")?;
-    let rest = word(word(rest, b"ENABLE")?, b"BLOCK")?;
-    let rest = semicolon(word(word(rest, b"CHANGE")?, b"TRACKING")?)?;
+    let rest = phrase(
+        tokens,
+        &["ALTER", "DATABASE", "ENABLE", "BLOCK", "CHANGE", "TRACKING"],
+    )?;
     Ok((Command::Tracking { on: true }, rest))
 }
 
@@ -100,9 +96,12 @@ fn track(tokens: &[Token]) -> Result<(Command, &[Token]), Unread>
 fn untrack(tokens: &[Token]) -> Result<(Command, &[Token]), Unread>
     ensures { Gives (λ x. (x.0, x.1.now)) result (command_by untrack tokens.now) }
 {
-    let rest = word(word(tokens, b"ALTER")?, b"DATABASE")?;
-    let rest = word(word(rest, b"DISABLE")?, b"BLOCK")?;
-    let rest = semicolon(word(word(rest, b"CHANGE")?, b"TRACKING")?)?;
+    let rest = phrase(
+        tokens,
+        &[
+            "ALTER", "DATABASE", "DISABLE", "BLOCK", "CHANGE", "TRACKING",
+        ],
+    )?;
     Ok((Command::Tracking { on: false }, rest))
 }
 
@@ -110,9 +109,7 @@ fn untrack(tokens: &[Token]) -> Result<(Command, &[Token]), Unread>
 fn enable_thread(tokens: &[Token]) -> Result<(Command, &[Token]), Unread>
     ensures { Gives (λ x. (x.0, x.1.now)) result (command_by enable_thread tokens.now) }
 {
-    let rest = word(word(tokens, b"ALTER")?, b"DATABASE")?;
-    let (thread, rest) = number(word(word(rest, b"ENABLE")?, b"THREAD")?)?;
-    let rest = semicolon(rest)?;
+    let (thread, rest) = numbered(tokens, &["ALTER", "DATABASE", "ENABLE", "THREAD"])?;
     Ok((Command::SwitchThread { thread, on: true }, rest))
 }
 
@@ -120,9 +117,7 @@ fn enable_thread(tokens: &[Token]) -> Result<(Command, &[Token]), Unread>
 fn disable_thread(tokens: &[Token]) -> Result<(Command, &[Token]), Unread>
     ensures { Gives (λ x. (x.0, x.1.now)) result (command_by disable_thread tokens.now) }
 {
-    let rest = word(word(tokens, b"ALTER")?, b"DATABASE")?;
-    let (thread, rest) = number(word(word(rest, b"DISABLE")?, b"THREAD")?)?;
-    let rest = semicolon(rest)?;
+    let (thread, rest) = numbered(tokens, &["ALTER", "DATABASE", "DISABLE", "THREAD"])?;
     Ok((Command::SwitchThread { thread, on: false }, rest))
 }
 

@@ -6,6 +6,7 @@ pub mod backup;
 mod creating;
 mod mishaps;
 mod modes;
+mod phrases;
 mod reading;
 mod recovering;
 mod repairs;

@@ -2,6 +2,7 @@
 ghost use Rattle.rm_lang_grammar.specs.{Reading.{Gives}, Forms.{command_by, command_in}};
 ghost use Rattle.rm_lang_reading.specs.{Mishaps.{lose_datafile, lose_log, corrupt, remove, damage, cut, rename}, Language.{mishap_forms}};
 
+use crate::phrases::{block, numbered, words};
 use crate::texts::{new_name, plain};
 use rm_lang_grammar::Unread;
 use rm_lang_grammar::reading::{number, semicolon, word};
@@ -13,9 +14,7 @@ use std::alloc::Global;
 fn lose_datafile(tokens: &[Token]) -> Result<(Command, &[Token]), Unread>
     ensures { Gives (λ x. (x.0, x.1.now)) result (command_by lose_datafile tokens.now) }
 {
-    let rest = word(word(tokens, b"HOST")?, b"LOSE")?;
-    let (file, rest) = number(word(rest, b"DATAFILE")?)?;
-    let rest = semicolon(rest)?;
+    let (file, rest) = numbered(tokens, &["HOST", "LOSE", "DATAFILE"])?;
     Ok((Command::LoseDatafile { file }, rest))
 }
 
@@ -23,9 +22,7 @@ fn lose_datafile(tokens: &[Token]) -> Result<(Command, &[Token]), Unread>
 fn lose_log(tokens: &[Token]) -> Result<(Command, &[Token]), Unread>
     ensures { Gives (λ x. (x.0, x.1.now)) result (command_by lose_log tokens.now) }
 {
-    let rest = word(word(tokens, b"HOST")?, b"LOSE")?;
-    let (thread, rest) = number(word(word(rest, b"LOG")?, b"THREAD")?)?;
-    let rest = semicolon(rest)?;
+    let (thread, rest) = numbered(tokens, &["HOST", "LOSE", "LOG", "THREAD"])?;
     Ok((Command::LoseLog { thread }, rest))
 }
 
@@ -33,10 +30,7 @@ fn lose_log(tokens: &[Token]) -> Result<(Command, &[Token]), Unread>
 fn corrupt(tokens: &[Token]) -> Result<(Command, &[Token]), Unread>
     ensures { Gives (λ x. (x.0, x.1.now)) result (command_by corrupt tokens.now) }
 {
-    let rest = word(word(tokens, b"HOST")?, b"CORRUPT")?;
-    let (file, rest) = number(word(rest, b"DATAFILE")?)?;
-    let (block, rest) = number(word(rest, b"BLOCK")?)?;
-    let rest = semicolon(rest)?;
+    let ((file, block), rest) = block(tokens, &["HOST", "CORRUPT", "DATAFILE"])?;
     Ok((Command::Corrupt { file, block }, rest))
 }
 
@@ -44,7 +38,7 @@ fn corrupt(tokens: &[Token]) -> Result<(Command, &[Token]), Unread>
 fn remove(alloc: Global, tokens: &[Token]) -> Result<(Command, &[Token]), Unread>
     ensures { Gives (λ x. (x.0, x.1.now)) result (command_by remove tokens.now) }
 {
-    let (name, rest) = plain(alloc, word(word(tokens, b"HOST")?, b"REMOVE")?)?;
+    let (name, rest) = plain(alloc, words(tokens, &["HOST", "REMOVE"])?)?;
     let rest = semicolon(rest)?;
     Ok((Command::Remove { name }, rest))
 }
@@ -53,7 +47,7 @@ fn remove(alloc: Global, tokens: &[Token]) -> Result<(Command, &[Token]), Unread
 fn damage(alloc: Global, tokens: &[Token]) -> Result<(Command, &[Token]), Unread>
     ensures { Gives (λ x. (x.0, x.1.now)) result (command_by damage tokens.now) }
 {
-    let (name, rest) = plain(alloc, word(word(tokens, b"HOST")?, b"DAMAGE")?)?;
+    let (name, rest) = plain(alloc, words(tokens, &["HOST", "DAMAGE"])?)?;
     let (at, rest) = number(word(rest, b"AT")?)?;
     let rest = semicolon(rest)?;
     Ok((Command::Damage { name, at }, rest))
@@ -63,7 +57,7 @@ fn damage(alloc: Global, tokens: &[Token]) -> Result<(Command, &[Token]), Unread
 fn cut(alloc: Global, tokens: &[Token]) -> Result<(Command, &[Token]), Unread>
     ensures { Gives (λ x. (x.0, x.1.now)) result (command_by cut tokens.now) }
 {
-    let (name, rest) = plain(alloc, word(word(tokens, b"HOST")?, b"CUT")?)?;
+    let (name, rest) = plain(alloc, words(tokens, &["HOST", "CUT"])?)?;
     let (to, rest) = number(word(rest, b"TO")?)?;
     let rest = semicolon(rest)?;
     Ok((Command::Cut { name, to }, rest))
@@ -73,7 +67,7 @@ fn cut(alloc: Global, tokens: &[Token]) -> Result<(Command, &[Token]), Unread>
 fn rename(alloc: Global, tokens: &[Token]) -> Result<(Command, &[Token]), Unread>
     ensures { Gives (λ x. (x.0, x.1.now)) result (command_by rename tokens.now) }
 {
-    let (old, rest) = plain(alloc, word(word(tokens, b"HOST")?, b"RENAME")?)?;
+    let (old, rest) = plain(alloc, words(tokens, &["HOST", "RENAME"])?)?;
     let (new_name, rest) = new_name(alloc, word(rest, b"TO")?)?;
     let rest = semicolon(rest)?;
     Ok((Command::Rename { old, new_name }, rest))

@@ -3,9 +3,10 @@ ghost use Rattle.std.specs.Prelude.{◌≡◌};
 ghost use Rattle.rm_lang_grammar.specs.{Reading.{Gives}, Forms.{command_by, command_in}};
 ghost use Rattle.rm_lang_reading.specs.{Modes.{shutdown, startup, reset_database, open_database, open_command}, Language.{mode_forms}};
 
+use crate::phrases::{numbered, words};
 use crate::recovering::recovering;
 use rm_lang_grammar::Unread;
-use rm_lang_grammar::reading::{flag, noise, number, semicolon, word};
+use rm_lang_grammar::reading::{flag, noise, semicolon, word};
 use rm_lang_statement::Command;
 use rm_lang_token::Token;
 use std::alloc::Global;
@@ -32,9 +33,7 @@ fn startup(tokens: &[Token]) -> Result<(Command, &[Token]), Unread>
 fn reset_database(tokens: &[Token]) -> Result<(Command, &[Token]), Unread>
     ensures { Gives (λ x. (x.0, x.1.now)) result (command_by reset_database tokens.now) }
 {
-    let rest = word(word(tokens, b"RESET")?, b"DATABASE")?;
-    let (inc, rest) = number(word(word(rest, b"TO")?, b"INCARNATION")?)?;
-    let rest = semicolon(rest)?;
+    let (inc, rest) = numbered(tokens, &["RESET", "DATABASE", "TO", "INCARNATION"])?;
     Ok((Command::ResetDatabase { inc }, rest))
 }
 
@@ -53,8 +52,8 @@ fn open_command(resetlogs: bool) -> Command
 fn open_database(tokens: &[Token]) -> Result<(Command, &[Token]), Unread>
     ensures { Gives (λ x. (x.0, x.1.now)) result (command_by open_database tokens.now) }
 {
-    let rest = word(word(tokens, b"ALTER")?, b"DATABASE")?;
-    let (resetlogs, rest) = flag(word(rest, b"OPEN")?, b"RESETLOGS");
+    let rest = words(tokens, &["ALTER", "DATABASE", "OPEN"])?;
+    let (resetlogs, rest) = flag(rest, b"RESETLOGS");
     let rest = semicolon(rest)?;
     Ok((open_command(resetlogs), rest))
 }

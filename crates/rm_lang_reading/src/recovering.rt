@@ -4,10 +4,11 @@ ghost use Rattle.rm_lang_grammar.specs.{Reading.{Gives, read, maybe, one_of, beg
 ghost use Rattle.rm_lang_reading.specs.Recovering.{scn_part, log_or_time, until_line, incarnation_line, restoring, restore, restore_datafile, recovery, recover, recover_copy};
 ghost use Rattle.rm_lang_reading.specs.{Values.{until_choice, until_values, incarnation_values}, Language.{recovery_forms}};
 
+use crate::phrases::{after, words};
 use crate::repairs::repairing;
 use crate::texts::time;
 use rm_lang_grammar::Unread;
-use rm_lang_grammar::reading::{begins_with, flag, number, number_or, semicolon, tag, word};
+use rm_lang_grammar::reading::{flag, number, number_or, semicolon, tag, word};
 use rm_lang_statement::{Command, Until};
 use rm_lang_token::Token;
 use std::alloc::Global;
@@ -16,12 +17,12 @@ use std::alloc::Global;
 pub fn point(alloc: Global, tokens: &[Token]) -> Result<(Until, &[Token]), Unread>
     ensures { Gives (λ x. (until_choice x.0, x.1.now)) result (one_of (begins scn_part tokens.now) (read scn_part tokens.now) (read log_or_time tokens.now)) }
 {
-    if begins_with(tokens, b"SCN") {
-        let (scn, rest) = number(word(tokens, b"SCN")?)?;
+    if let Some(rest) = after(tokens, b"SCN") {
+        let (scn, rest) = number(rest)?;
         return Ok((Until::Scn(scn), rest));
     }
-    if begins_with(tokens, b"SEQUENCE") {
-        let (sequence, rest) = number(word(tokens, b"SEQUENCE")?)?;
+    if let Some(rest) = after(tokens, b"SEQUENCE") {
+        let (sequence, rest) = number(rest)?;
         let (thread, rest) = number_or(rest, b"THREAD", 1)?;
         return Ok((Until::Sequence { sequence, thread }, rest));
     }
@@ -33,10 +34,10 @@ pub fn point(alloc: Global, tokens: &[Token]) -> Result<(Until, &[Token]), Unrea
 fn optional_until(alloc: Global, tokens: &[Token]) -> Result<(Option<Until>, &[Token]), Unread>
     ensures { Gives (λ x. (option_map until_values x.0, x.1.now)) result (maybe (begins until_line tokens.now) (read until_line tokens.now) tokens.now) }
 {
-    if !begins_with(tokens, b"UNTIL") {
+    let Some(rest) = after(tokens, b"UNTIL") else {
         return Ok((None, tokens));
-    }
-    let (until, rest) = point(alloc, word(tokens, b"UNTIL")?)?;
+    };
+    let (until, rest) = point(alloc, rest)?;
     Ok((Some(until), rest))
 }
 
@@ -55,7 +56,7 @@ fn restoring(until: Option<Until>, preview: bool) -> Command
 fn restore(alloc: Global, tokens: &[Token]) -> Result<(Command, &[Token]), Unread>
     ensures { Gives (λ x. (x.0, x.1.now)) result (command_by restore tokens.now) }
 {
-    let rest = word(word(tokens, b"RESTORE")?, b"DATABASE")?;
+    let rest = words(tokens, &["RESTORE", "DATABASE"])?;
     let (until, rest) = optional_until(alloc, rest)?;
     let (preview, rest) = flag(rest, b"PREVIEW");
     let rest = semicolon(rest)?;
@@ -66,7 +67,7 @@ fn restore(alloc: Global, tokens: &[Token]) -> Result<(Command, &[Token]), Unrea
 fn restore_datafile(alloc: Global, tokens: &[Token]) -> Result<(Command, &[Token]), Unread>
     ensures { Gives (λ x. (x.0, x.1.now)) result (command_by restore_datafile tokens.now) }
 {
-    let (file, rest) = number(word(word(tokens, b"RESTORE")?, b"DATAFILE")?)?;
+    let (file, rest) = number(words(tokens, &["RESTORE", "DATAFILE"])?)?;
     let (until, rest) = optional_until(alloc, rest)?;
     let rest = semicolon(rest)?;
     let command = Command::Restore {
@@ -80,11 +81,11 @@ fn restore_datafile(alloc: Global, tokens: &[Token]) -> Result<(Command, &[Token
 fn optional_incarnation(tokens: &[Token]) -> Result<(Option<u64>, &[Token]), Unread>
     ensures { Gives (λ x. (option_map incarnation_values x.0, x.1.now)) result (maybe (begins incarnation_line tokens.now) (read incarnation_line tokens.now) tokens.now) }
 {
-    if begins_with(tokens, b"INCARNATION") {
-        let (inc, rest) = number(word(tokens, b"INCARNATION")?)?;
-        return Ok((Some(inc), rest));
-    }
-    Ok((None, tokens))
+    let Some(rest) = after(tokens, b"INCARNATION") else {
+        return Ok((None, tokens));
+    };
+    let (inc, rest) = number(rest)?;
+    Ok((Some(inc), rest))
 }
 
 // An incarnation stands with TEST only.
@@ -104,7 +105,7 @@ fn recovery(until: Option<Until>, inc: Option<u64>, test: bool) -> Result<Comman
 fn recover(alloc: Global, tokens: &[Token]) -> Result<(Command, &[Token]), Unread>
     ensures { Gives (λ x. (x.0, x.1.now)) result (command_by recover tokens.now) }
 {
-    let rest = word(word(tokens, b"RECOVER")?, b"DATABASE")?;
+    let rest = words(tokens, &["RECOVER", "DATABASE"])?;
     let (until, rest) = optional_until(alloc, rest)?;
     let (inc, rest) = optional_incarnation(rest)?;
     let (test, rest) = flag(rest, b"TEST");
@@ -116,9 +117,8 @@ fn recover(alloc: Global, tokens: &[Token]) -> Result<(Command, &[Token]), Unrea
 fn recover_copy(alloc: Global, tokens: &[Token]) -> Result<(Command, &[Token]), Unread>
     ensures { Gives (λ x. (x.0, x.1.now)) result (command_by recover_copy tokens.now) }
 {
-    let rest = word(word(tokens, b"RECOVER")?, b"COPY")?;
-    let rest = word(word(rest, b"OF")?, b"DATABASE")?;
-    let (tag, rest) = tag(alloc, word(rest, b"WITH")?)?;
+    let rest = words(tokens, &["RECOVER", "COPY", "OF", "DATABASE", "WITH"])?;
+    let (tag, rest) = tag(alloc, rest)?;
     let (until, rest) = optional_until(alloc, rest)?;
     let rest = semicolon(rest)?;
     Ok((Command::RecoverCopy { tag, until }, rest))

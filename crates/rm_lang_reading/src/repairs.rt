@@ -5,8 +5,9 @@ ghost use Rattle.rm_lang_reading.specs.{Repairs.{corruption_line, blocks_line, o
 ghost use Rattle.rm_lang_reading.specs.Language.{repair_forms};
 
 use crate::backup::{in_order, optional_during, saving};
+use crate::phrases::after;
 use rm_lang_grammar::Unread;
-use rm_lang_grammar::reading::{begins_with, number, numbers, semicolon, word};
+use rm_lang_grammar::reading::{number, numbers, semicolon, word};
 use rm_lang_statement::{Command, NamedBlocks, RepairForm};
 use rm_lang_token::Token;
 use std::alloc::Global;
@@ -15,8 +16,8 @@ use std::alloc::Global;
 fn named_blocks(alloc: Global, tokens: &[Token]) -> Result<(Option<NamedBlocks>, &[Token]), Unread>
     ensures { Gives (λ x. (blocks_values x.0, x.1.now)) result (one_of (begins corruption_line tokens.now) (read corruption_line tokens.now) (read blocks_line tokens.now)) }
 {
-    if begins_with(tokens, b"CORRUPTION") {
-        return Ok((None, word(word(tokens, b"CORRUPTION")?, b"LIST")?));
+    if let Some(rest) = after(tokens, b"CORRUPTION") {
+        return Ok((None, word(rest, b"LIST")?));
     }
     let (file, rest) = number(word(tokens, b"DATAFILE")?)?;
     let (blocks, rest) = numbers(alloc, word(rest, b"BLOCK")?)?;

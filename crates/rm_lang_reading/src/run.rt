@@ -4,6 +4,7 @@ ghost use Rattle.rm_lang_grammar.specs.{Reading.{Gives}, Forms.{command_by, comm
 ghost use Rattle.rm_lang_reading.specs.Language.{set_until, allocate, inner_forms};
 
 use crate::creating::creating;
+use crate::phrases::words;
 use crate::recovering::point;
 use rm_base::Seq;
 use rm_lang_grammar::Unread;
@@ -16,8 +17,7 @@ use std::alloc::Global;
 fn set_until(alloc: Global, tokens: &[Token]) -> Result<(Inner, &[Token]), Unread>
     ensures { Gives (λ x. (x.0, x.1.now)) result (command_by set_until tokens.now) }
 {
-    let rest = word(word(tokens, b"SET")?, b"UNTIL")?;
-    let (until, rest) = point(alloc, rest)?;
+    let (until, rest) = point(alloc, words(tokens, &["SET", "UNTIL"])?)?;
     let rest = semicolon(rest)?;
     Ok((Inner::SetUntil(until), rest))
 }
@@ -27,8 +27,7 @@ fn allocate(tokens: &[Token]) -> Result<(Inner, &[Token]), Unread>
     ensures { Gives (λ x. (x.0, x.1.now)) result (command_by allocate tokens.now) }
 {
     let rest = named(word(tokens, b"ALLOCATE")?, b"CHANNEL")?;
-    let rest = word(word(rest, b"DEVICE")?, b"TYPE")?;
-    let rest = semicolon(word(rest, b"DISK")?)?;
+    let rest = semicolon(words(rest, &["DEVICE", "TYPE", "DISK"])?)?;
     Ok((Inner::AllocateChannel, rest))
 }
 

@@ -6,9 +6,10 @@ ghost use Rattle.rm_lang_reading.specs.Language.{setting_forms};
 ghost use Rattle.std.specs.Prelude.{codes};
 
 use crate::mishaps::mishap;
+use crate::phrases::{after, counted, words};
 use crate::texts::plain;
 use rm_lang_grammar::Unread;
-use rm_lang_grammar::reading::{begins_with, number_in, semicolon, word};
+use rm_lang_grammar::reading::{number_in, semicolon, word};
 use rm_lang_statement::{Command, RetentionForm};
 use rm_lang_token::Token;
 use std::alloc::Global;
@@ -17,17 +18,15 @@ use std::alloc::Global;
 fn policy(tokens: &[Token]) -> Result<(RetentionForm, &[Token]), Unread>
     ensures { Gives (λ x. (retention_choice x.0, x.1.now)) result (one_of (begins policy_part tokens.now) (read policy_part tokens.now) (read (word_part (codes "CLEAR") ▸ end) tokens.now)) }
 {
-    if !begins_with(tokens, b"TO") {
+    let Some(rest) = after(tokens, b"TO") else {
         return Ok((RetentionForm::Clear, word(tokens, b"CLEAR")?));
-    }
-    let rest = word(tokens, b"TO")?;
-    if begins_with(rest, b"RECOVERY") {
-        let rest = word(word(word(rest, b"RECOVERY")?, b"WINDOW")?, b"OF")?;
-        let (days, rest) = number_in(rest, 1, u64::MAX)?;
+    };
+    if let Some(rest) = after(rest, b"RECOVERY") {
+        let (days, rest) = number_in(words(rest, &["WINDOW", "OF"])?, 1, u64::MAX)?;
         return Ok((RetentionForm::Window(days), word(rest, b"DAYS")?));
     }
-    if begins_with(rest, b"REDUNDANCY") {
-        let (count, rest) = number_in(word(rest, b"REDUNDANCY")?, 1, u64::MAX)?;
+    if let Some(rest) = after(rest, b"REDUNDANCY") {
+        let (count, rest) = number_in(rest, 1, u64::MAX)?;
         return Ok((RetentionForm::Redundancy(count), rest));
     }
     Ok((RetentionForm::Nothing, word(rest, b"NONE")?))
@@ -37,8 +36,8 @@ fn policy(tokens: &[Token]) -> Result<(RetentionForm, &[Token]), Unread>
 fn retention(tokens: &[Token]) -> Result<(Command, &[Token]), Unread>
     ensures { Gives (λ x. (x.0, x.1.now)) result (command_by retention tokens.now) }
 {
-    let rest = word(word(tokens, b"CONFIGURE")?, b"RETENTION")?;
-    let (form, rest) = policy(word(rest, b"POLICY")?)?;
+    let rest = words(tokens, &["CONFIGURE", "RETENTION", "POLICY"])?;
+    let (form, rest) = policy(rest)?;
     let rest = semicolon(rest)?;
     Ok((Command::Retention(form), rest))
 }
@@ -47,10 +46,10 @@ fn retention(tokens: &[Token]) -> Result<(Command, &[Token]), Unread>
 fn parallelism(tokens: &[Token]) -> Result<(Command, &[Token]), Unread>
     ensures { Gives (λ x. (x.0, x.1.now)) result (command_by parallelism tokens.now) }
 {
-    let rest = word(word(tokens, b"CONFIGURE")?, b"DEVICE")?;
-    let rest = word(word(rest, b"TYPE")?, b"DISK")?;
-    let (channels, rest) = number_in(word(rest, b"PARALLELISM")?, 1, u64::MAX)?;
-    let rest = semicolon(rest)?;
+    let (channels, rest) = counted(
+        tokens,
+        &["CONFIGURE", "DEVICE", "TYPE", "DISK", "PARALLELISM"],
+    )?;
     Ok((Command::Parallelism { channels }, rest))
 }
 

@@ -6,9 +6,10 @@ ghost use Rattle.rm_lang_reading.specs.Upkeep.{copy_or_archived, withdrawing, on
 ghost use Rattle.rm_lang_reading.specs.{Values.{class_choice, change_choice, deletion_choice}, Language.{upkeep_forms}};
 
 use crate::asking::asking;
+use crate::phrases::{after, phrase, words};
 use rm_base::Class;
 use rm_lang_grammar::Unread;
-use rm_lang_grammar::reading::{begins_with, noise, number, semicolon, word};
+use rm_lang_grammar::reading::{noise, number, semicolon, word};
 use rm_lang_statement::{ChangeTo, Command};
 use rm_lang_token::Token;
 use std::alloc::Global;
@@ -25,13 +26,13 @@ pub enum Deletion {
 fn class(tokens: &[Token]) -> Result<(Class, &[Token]), Unread>
     ensures { Gives (λ x. (class_choice x.0, x.1.now)) result (one_of (begins (word_part (codes "BACKUP") ▸ end) tokens.now) (read (word_part (codes "BACKUP") ▸ end) tokens.now) (read copy_or_archived tokens.now)) }
 {
-    if begins_with(tokens, b"BACKUP") {
-        return Ok((Class::Backup, word(tokens, b"BACKUP")?));
+    if let Some(rest) = after(tokens, b"BACKUP") {
+        return Ok((Class::Backup, rest));
     }
-    if begins_with(tokens, b"COPY") {
-        return Ok((Class::Copy, word(tokens, b"COPY")?));
+    if let Some(rest) = after(tokens, b"COPY") {
+        return Ok((Class::Copy, rest));
     }
-    Ok((Class::Archived, word(word(tokens, b"ARCHIVELOG")?, b"ALL")?))
+    Ok((Class::Archived, words(tokens, &["ARCHIVELOG", "ALL"])?))
 }
 
 #[tactic(auto, using(crate::proofs::Parts::parts), unfolding(crate::specs::Upkeep::crosscheck))]
@@ -47,7 +48,7 @@ fn crosscheck(tokens: &[Token]) -> Result<(Command, &[Token]), Unread>
 fn validate(tokens: &[Token]) -> Result<(Command, &[Token]), Unread>
     ensures { Gives (λ x. (x.0, x.1.now)) result (command_by validate tokens.now) }
 {
-    let rest = semicolon(word(word(tokens, b"VALIDATE")?, b"ALL")?)?;
+    let rest = phrase(tokens, &["VALIDATE", "ALL"])?;
     Ok((Command::ValidateAll, rest))
 }
 
@@ -55,17 +56,17 @@ fn validate(tokens: &[Token]) -> Result<(Command, &[Token]), Unread>
 fn change_to(tokens: &[Token]) -> Result<(ChangeTo, &[Token]), Unread>
     ensures { Gives (λ x. (change_choice x.0, x.1.now)) result (one_of (begins (word_part (codes "AVAILABLE") ▸ end) tokens.now) (read (word_part (codes "AVAILABLE") ▸ end) tokens.now) (read withdrawing tokens.now)) }
 {
-    if begins_with(tokens, b"AVAILABLE") {
-        return Ok((ChangeTo::Available, word(tokens, b"AVAILABLE")?));
+    if let Some(rest) = after(tokens, b"AVAILABLE") {
+        return Ok((ChangeTo::Available, rest));
     }
-    if begins_with(tokens, b"UNAVAILABLE") {
-        return Ok((ChangeTo::Unavailable, word(tokens, b"UNAVAILABLE")?));
+    if let Some(rest) = after(tokens, b"UNAVAILABLE") {
+        return Ok((ChangeTo::Unavailable, rest));
     }
-    if begins_with(tokens, b"UNCATALOG") {
-        return Ok((ChangeTo::Uncatalog, word(tokens, b"UNCATALOG")?));
+    if let Some(rest) = after(tokens, b"UNCATALOG") {
+        return Ok((ChangeTo::Uncatalog, rest));
     }
-    if begins_with(tokens, b"KEEP") {
-        return Ok((ChangeTo::Keep, word(word(tokens, b"KEEP")?, b"FOREVER")?));
+    if let Some(rest) = after(tokens, b"KEEP") {
+        return Ok((ChangeTo::Keep, word(rest, b"FOREVER")?));
     }
     Ok((ChangeTo::NoKeep, word(tokens, b"NOKEEP")?))
 }
@@ -74,7 +75,7 @@ fn change_to(tokens: &[Token]) -> Result<(ChangeTo, &[Token]), Unread>
 fn change(tokens: &[Token]) -> Result<(Command, &[Token]), Unread>
     ensures { Gives (λ x. (x.0, x.1.now)) result (command_by change tokens.now) }
 {
-    let (id, rest) = number(word(word(tokens, b"CHANGE")?, b"BACKUP")?)?;
+    let (id, rest) = number(words(tokens, &["CHANGE", "BACKUP"])?)?;
     let (to, rest) = change_to(rest)?;
     let rest = semicolon(rest)?;
     Ok((Command::ChangeBackup { id, to }, rest))
@@ -84,11 +85,11 @@ fn change(tokens: &[Token]) -> Result<(Command, &[Token]), Unread>
 fn what_to_delete(tokens: &[Token]) -> Result<(Deletion, &[Token]), Unread>
     ensures { Gives (λ x. (deletion_choice x.0, x.1.now)) result (one_of (begins (word_part (codes "OBSOLETE") ▸ end) tokens.now) (read (word_part (codes "OBSOLETE") ▸ end) tokens.now) (read one_or_expired tokens.now)) }
 {
-    if begins_with(tokens, b"OBSOLETE") {
-        return Ok((Deletion::Obsolete, word(tokens, b"OBSOLETE")?));
+    if let Some(rest) = after(tokens, b"OBSOLETE") {
+        return Ok((Deletion::Obsolete, rest));
     }
-    if begins_with(tokens, b"BACKUP") {
-        let (id, rest) = number(word(tokens, b"BACKUP")?)?;
+    if let Some(rest) = after(tokens, b"BACKUP") {
+        let (id, rest) = number(rest)?;
         return Ok((Deletion::One(id), rest));
     }
     let (class, rest) = class(word(tokens, b"EXPIRED")?)?;
