@@ -6,6 +6,7 @@ ghost use Rattle.rm_lang_reading.specs.Backups.{as_line, increment_line, merge_l
 ghost use Rattle.rm_lang_reading.specs.Values.{write_values, kind_values, kind_asked, increment_values, level_asked, merge_values, files_values, sets_values, tag_values, keep_values, during_values, backup_values, from_values};
 ghost use Rattle.rm_lang_statement.specs.IsCommand.{is_write, is_backup};
 
+use crate::phrases::{ended, numbered, words};
 use rm_base::{NoMemory, Seq, Text};
 use rm_lang_grammar::Spelling;
 use rm_lang_statement::{BackupForm, WriteForm};
@@ -25,16 +26,14 @@ fn write_part(alloc: Global, form: WriteForm) -> Result<Spelling, NoMemory>
     spelling.number(form.block)?;
     spelling.word("VALUE")?;
     spelling.string(form.content.trimmed())?;
-    spelling.sign(b';')?;
-    Ok(spelling)
+    ended(spelling)
 }
 
 pub fn write(alloc: Global, form: WriteForm) -> Result<Spelling, NoMemory>
     requires { IsTrue (is_write form) }
     ensures { IfOk result (λ ts. ts ≡ spelled write_line (write_values form)) }
 {
-    let mut spelling = Spelling::new(alloc);
-    spelling.word("WRITE")?;
+    let mut spelling = words(alloc, &["WRITE"])?;
     spelling.append(write_part(alloc, form)?)?;
     Ok(spelling)
 }
@@ -43,25 +42,21 @@ pub fn write(alloc: Global, form: WriteForm) -> Result<Spelling, NoMemory>
 fn kind(alloc: Global, copy: bool) -> Result<Spelling, NoMemory>
     ensures { IfOk result (λ ts. ts ≡ maybe_spelled (spelled as_line) (option_map kind_values (kind_asked copy))) }
 {
-    let mut spelling = Spelling::new(alloc);
     if copy {
-        spelling.word("AS")?;
-        spelling.word("COPY")?;
+        return words(alloc, &["AS", "COPY"]);
     }
-    Ok(spelling)
+    Ok(Spelling::new(alloc))
 }
 
 // The level, if there is one.
 fn level(alloc: Global, level: Option<u8>, cumulative: bool) -> Result<Spelling, NoMemory>
     ensures { IfOk result (λ ts. ts ≡ maybe_spelled (spelled increment_line) (option_map increment_values (option_map (level_asked cumulative) level))) }
 {
-    let mut spelling = Spelling::new(alloc);
-    if let Some(level) = level {
-        spelling.word("INCREMENTAL")?;
-        spelling.word("LEVEL")?;
-        spelling.number(level as u64)?;
-        spelling.flag("CUMULATIVE", cumulative)?;
-    }
+    let Some(level) = level else {
+        return Ok(Spelling::new(alloc));
+    };
+    let mut spelling = numbered(alloc, &["INCREMENTAL", "LEVEL"], level as u64)?;
+    spelling.flag("CUMULATIVE", cumulative)?;
     Ok(spelling)
 }
 
@@ -70,15 +65,11 @@ fn merge(alloc: Global, tag: &Option<Text>) -> Result<Spelling, NoMemory>
     requires { IsTrue (maybe_valid is_capital_tag tag.now) }
     ensures { IfOk result (λ ts. ts ≡ maybe_spelled (spelled merge_line) (option_map merge_values tag.now)) }
 {
-    let mut spelling = Spelling::new(alloc);
-    if let Some(tag) = tag {
-        spelling.word("FOR")?;
-        spelling.word("RECOVER")?;
-        spelling.word("OF")?;
-        spelling.word("COPY")?;
-        spelling.word("WITH")?;
-        spelling.tag(tag.as_bytes())?;
-    }
+    let Some(tag) = tag else {
+        return Ok(Spelling::new(alloc));
+    };
+    let mut spelling = words(alloc, &["FOR", "RECOVER", "OF", "COPY", "WITH"])?;
+    spelling.tag(tag.as_bytes())?;
     Ok(spelling)
 }
 
@@ -86,14 +77,11 @@ fn merge(alloc: Global, tag: &Option<Text>) -> Result<Spelling, NoMemory>
 fn files(alloc: Global, files: &Option<Seq<u64>>) -> Result<Spelling, NoMemory>
     ensures { IfOk result (λ ts. ts ≡ one_spelled (spelled database_line) (spelled files_line) (files_values files.now)) }
 {
-    let mut spelling = Spelling::new(alloc);
-    match files {
-        None => spelling.word("DATABASE")?,
-        Some(files) => {
-            spelling.word("DATAFILE")?;
-            spelling.numbers(files.as_slice())?;
-        }
-    }
+    let Some(files) = files else {
+        return words(alloc, &["DATABASE"]);
+    };
+    let mut spelling = words(alloc, &["DATAFILE"])?;
+    spelling.numbers(files.as_slice())?;
     Ok(spelling)
 }
 
@@ -101,12 +89,10 @@ fn files(alloc: Global, files: &Option<Seq<u64>>) -> Result<Spelling, NoMemory>
 fn sets(alloc: Global, per_set: Option<u8>) -> Result<Spelling, NoMemory>
     ensures { IfOk result (λ ts. ts ≡ maybe_spelled (spelled sets_line) (option_map sets_values per_set)) }
 {
-    let mut spelling = Spelling::new(alloc);
-    if let Some(number) = per_set {
-        spelling.word("FILESPERSET")?;
-        spelling.number(number as u64)?;
+    match per_set {
+        Some(number) => numbered(alloc, &["FILESPERSET"], number as u64),
+        None => Ok(Spelling::new(alloc)),
     }
-    Ok(spelling)
 }
 
 // The tag, if there is one.
@@ -125,12 +111,10 @@ fn tag(alloc: Global, tag: &Option<Text>) -> Result<Spelling, NoMemory>
 fn keep(alloc: Global, keep: bool) -> Result<Spelling, NoMemory>
     ensures { IfOk result (λ ts. ts ≡ maybe_spelled (spelled keep_line) (keep_values keep)) }
 {
-    let mut spelling = Spelling::new(alloc);
     if keep {
-        spelling.word("KEEP")?;
-        spelling.word("FOREVER")?;
+        return words(alloc, &["KEEP", "FOREVER"]);
     }
-    Ok(spelling)
+    Ok(Spelling::new(alloc))
 }
 
 // The writes, one behind the other.
@@ -181,13 +165,7 @@ pub fn backup(alloc: Global, form: &BackupForm) -> Result<Spelling, NoMemory>
 pub fn backup_from(alloc: Global, scn: u64) -> Result<Spelling, NoMemory>
     ensures { IfOk result (λ ts. ts ≡ spelled backup_line (from_values scn)) }
 {
-    let mut spelling = Spelling::new(alloc);
-    spelling.word("BACKUP")?;
-    spelling.word("INCREMENTAL")?;
-    spelling.word("FROM")?;
-    spelling.word("SCN")?;
-    spelling.number(scn)?;
+    let mut spelling = numbered(alloc, &["BACKUP", "INCREMENTAL", "FROM", "SCN"], scn)?;
     spelling.word("DATABASE")?;
-    spelling.sign(b';')?;
-    Ok(spelling)
+    ended(spelling)
 }

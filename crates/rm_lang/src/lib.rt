@@ -4,6 +4,7 @@
 mod backup;
 pub mod laws;
 mod parts;
+mod phrases;
 mod plain;
 mod reading;
 mod repair;

@@ -6,6 +6,7 @@ ghost use Rattle.rm_lang_reading.specs.{Upkeep.{copy_or_archived, withdrawing}, 
 ghost use Rattle.rm_lang_reading.specs.Values.{until_choice, until_values, incarnation_values, class_choice, change_choice, retention_choice};
 ghost use Rattle.rm_lang_statement.specs.IsCommand.{is_until, is_until_or_none};
 
+use crate::phrases::{numbered, quoted, words};
 use rm_base::{Class, NoMemory};
 use rm_lang_grammar::Spelling;
 use rm_lang_statement::{ChangeTo, RetentionForm, Until};
@@ -16,23 +17,15 @@ pub fn point(alloc: Global, until: &Until) -> Result<Spelling, NoMemory>
     requires { IsTrue (is_until until.now) }
     ensures { IfOk result (λ ts. ts ≡ one_spelled (spelled scn_part) (spelled log_or_time) (until_choice until.now)) }
 {
-    let mut spelling = Spelling::new(alloc);
     match until {
-        Until::Scn(scn) => {
-            spelling.word("SCN")?;
-            spelling.number(*scn)?;
-        }
+        Until::Scn(scn) => numbered(alloc, &["SCN"], *scn),
         Until::Sequence { sequence, thread } => {
-            spelling.word("SEQUENCE")?;
-            spelling.number(*sequence)?;
+            let mut spelling = numbered(alloc, &["SEQUENCE"], *sequence)?;
             spelling.number_or("THREAD", 1, *thread)?;
+            Ok(spelling)
         }
-        Until::Time(text) => {
-            spelling.word("TIME")?;
-            spelling.string(text.as_bytes())?;
-        }
+        Until::Time(text) => quoted(alloc, &["TIME"], text),
     }
-    Ok(spelling)
 }
 
 /// An UNTIL, or nothing.
@@ -52,72 +45,48 @@ pub fn optional_until(alloc: Global, until: &Option<Until>) -> Result<Spelling, 
 pub fn optional_incarnation(alloc: Global, inc: Option<u64>) -> Result<Spelling, NoMemory>
     ensures { IfOk result (λ ts. ts ≡ maybe_spelled (spelled incarnation_line) (option_map incarnation_values inc)) }
 {
-    let mut spelling = Spelling::new(alloc);
-    if let Some(number) = inc {
-        spelling.word("INCARNATION")?;
-        spelling.number(number)?;
+    match inc {
+        Some(number) => numbered(alloc, &["INCARNATION"], number),
+        None => Ok(Spelling::new(alloc)),
     }
-    Ok(spelling)
 }
 
 /// A class of records.
 pub fn class(alloc: Global, class: Class) -> Result<Spelling, NoMemory>
     ensures { IfOk result (λ ts. ts ≡ one_spelled (spelled (word_part (codes "BACKUP") ▸ end)) (spelled copy_or_archived) (class_choice class)) }
 {
-    let mut spelling = Spelling::new(alloc);
     match class {
-        Class::Backup => spelling.word("BACKUP")?,
-        Class::Copy => spelling.word("COPY")?,
-        Class::Archived => {
-            spelling.word("ARCHIVELOG")?;
-            spelling.word("ALL")?;
-        }
+        Class::Backup => words(alloc, &["BACKUP"]),
+        Class::Copy => words(alloc, &["COPY"]),
+        Class::Archived => words(alloc, &["ARCHIVELOG", "ALL"]),
     }
-    Ok(spelling)
 }
 
 /// What a CHANGE makes of a record.
 pub fn change_to(alloc: Global, to: ChangeTo) -> Result<Spelling, NoMemory>
     ensures { IfOk result (λ ts. ts ≡ one_spelled (spelled (word_part (codes "AVAILABLE") ▸ end)) (spelled withdrawing) (change_choice to)) }
 {
-    let mut spelling = Spelling::new(alloc);
     match to {
-        ChangeTo::Available => spelling.word("AVAILABLE")?,
-        ChangeTo::Unavailable => spelling.word("UNAVAILABLE")?,
-        ChangeTo::Uncatalog => spelling.word("UNCATALOG")?,
-        ChangeTo::Keep => {
-            spelling.word("KEEP")?;
-            spelling.word("FOREVER")?;
-        }
-        ChangeTo::NoKeep => spelling.word("NOKEEP")?,
+        ChangeTo::Available => words(alloc, &["AVAILABLE"]),
+        ChangeTo::Unavailable => words(alloc, &["UNAVAILABLE"]),
+        ChangeTo::Uncatalog => words(alloc, &["UNCATALOG"]),
+        ChangeTo::Keep => words(alloc, &["KEEP", "FOREVER"]),
+        ChangeTo::NoKeep => words(alloc, &["NOKEEP"]),
     }
-    Ok(spelling)
 }
 
 /// What a RETENTION POLICY asks for.
 pub fn policy(alloc: Global, form: RetentionForm) -> Result<Spelling, NoMemory>
     ensures { IfOk result (λ ts. ts ≡ one_spelled (spelled policy_part) (spelled (word_part (codes "CLEAR") ▸ end)) (retention_choice form)) }
 {
-    let mut spelling = Spelling::new(alloc);
     match form {
         RetentionForm::Window(days) => {
-            spelling.word("TO")?;
-            spelling.word("RECOVERY")?;
-            spelling.word("WINDOW")?;
-            spelling.word("OF")?;
-            spelling.number(days)?;
+            let mut spelling = numbered(alloc, &["TO", "RECOVERY", "WINDOW", "OF"], days)?;
             spelling.word("DAYS")?;
+            Ok(spelling)
         }
-        RetentionForm::Redundancy(count) => {
-            spelling.word("TO")?;
-            spelling.word("REDUNDANCY")?;
-            spelling.number(count)?;
-        }
-        RetentionForm::Nothing => {
-            spelling.word("TO")?;
-            spelling.word("NONE")?;
-        }
-        RetentionForm::Clear => spelling.word("CLEAR")?,
+        RetentionForm::Redundancy(count) => numbered(alloc, &["TO", "REDUNDANCY"], count),
+        RetentionForm::Nothing => words(alloc, &["TO", "NONE"]),
+        RetentionForm::Clear => words(alloc, &["CLEAR"]),
     }
-    Ok(spelling)
 }

@@ -5,6 +5,7 @@ ghost use Rattle.rm_lang_reading.specs.{Repairs.{corruption_line, blocks_line, b
 ghost use Rattle.rm_lang_statement.specs.IsCommand.{is_repair};
 
 use crate::backup::during;
+use crate::phrases::{ended, numbered, words};
 use rm_base::NoMemory;
 use rm_lang_grammar::Spelling;
 use rm_lang_statement::{NamedBlocks, RepairForm};
@@ -14,19 +15,12 @@ use std::alloc::Global;
 fn blocks(alloc: Global, named: &Option<NamedBlocks>) -> Result<Spelling, NoMemory>
     ensures { IfOk result (λ ts. ts ≡ one_spelled (spelled corruption_line) (spelled blocks_line) (blocks_values named.now)) }
 {
-    let mut spelling = Spelling::new(alloc);
-    match named {
-        None => {
-            spelling.word("CORRUPTION")?;
-            spelling.word("LIST")?;
-        }
-        Some(named) => {
-            spelling.word("DATAFILE")?;
-            spelling.number(named.file)?;
-            spelling.word("BLOCK")?;
-            spelling.numbers(named.blocks.as_slice())?;
-        }
-    }
+    let Some(named) = named else {
+        return words(alloc, &["CORRUPTION", "LIST"]);
+    };
+    let mut spelling = numbered(alloc, &["DATAFILE"], named.file)?;
+    spelling.word("BLOCK")?;
+    spelling.numbers(named.blocks.as_slice())?;
     Ok(spelling)
 }
 
@@ -34,10 +28,8 @@ pub fn block_recover(alloc: Global, form: &RepairForm) -> Result<Spelling, NoMem
     requires { IsTrue (is_repair form.now) }
     ensures { IfOk result (λ ts. ts ≡ spelled block_recover_line (repair_values form.now)) }
 {
-    let mut spelling = Spelling::new(alloc);
-    spelling.word("BLOCKRECOVER")?;
+    let mut spelling = words(alloc, &["BLOCKRECOVER"])?;
     spelling.append(blocks(alloc, &form.blocks)?)?;
     spelling.append(during(alloc, &form.during)?)?;
-    spelling.sign(b';')?;
-    Ok(spelling)
+    ended(spelling)
 }

@@ -9,6 +9,7 @@ ghost use Rattle.rm_lang_reading.specs.declared.upkeep.Deletion.TheVariants.{Obs
 ghost use Rattle.rm_lang_statement.specs.IsCommand.{is_until, is_until_or_none};
 
 use crate::parts::{change_to, class, optional_incarnation, optional_until, point, policy};
+use crate::phrases::{ended, numbered, phrase, with_part, words};
 use rm_base::{Class, NoMemory, Text};
 use rm_lang_grammar::Spelling;
 use rm_lang_statement::{ChangeTo, RetentionForm, Until};
@@ -18,13 +19,10 @@ pub fn restore(alloc: Global, until: &Option<Until>, preview: bool) -> Result<Sp
     requires { IsTrue (is_until_or_none until.now) }
     ensures { IfOk result (λ ts. ts ≡ spelled restore_line (option_map until_values until.now, (preview, tt))) }
 {
-    let mut spelling = Spelling::new(alloc);
-    spelling.word("RESTORE")?;
-    spelling.word("DATABASE")?;
+    let mut spelling = words(alloc, &["RESTORE", "DATABASE"])?;
     spelling.append(optional_until(alloc, until)?)?;
     spelling.flag("PREVIEW", preview)?;
-    spelling.sign(b';')?;
-    Ok(spelling)
+    ended(spelling)
 }
 
 pub fn restore_datafile(
@@ -35,25 +33,20 @@ pub fn restore_datafile(
     requires { IsTrue (is_until_or_none until.now) }
     ensures { IfOk result (λ ts. ts ≡ spelled restore_datafile_line (file, (option_map until_values until.now, tt))) }
 {
-    let mut spelling = Spelling::new(alloc);
-    spelling.word("RESTORE")?;
-    spelling.word("DATAFILE")?;
-    spelling.number(file)?;
+    let mut spelling = numbered(alloc, &["RESTORE", "DATAFILE"], file)?;
     spelling.append(optional_until(alloc, until)?)?;
-    spelling.sign(b';')?;
-    Ok(spelling)
+    ended(spelling)
 }
 
 pub fn recover(alloc: Global, until: &Option<Until>) -> Result<Spelling, NoMemory>
     requires { IsTrue (is_until_or_none until.now) }
     ensures { IfOk result (λ ts. ts ≡ spelled recover_line (option_map until_values until.now, (None, (false, tt)))) }
 {
-    let mut spelling = Spelling::new(alloc);
-    spelling.word("RECOVER")?;
-    spelling.word("DATABASE")?;
-    spelling.append(optional_until(alloc, until)?)?;
-    spelling.sign(b';')?;
-    Ok(spelling)
+    with_part(
+        alloc,
+        &["RECOVER", "DATABASE"],
+        optional_until(alloc, until)?,
+    )
 }
 
 pub fn recover_test(
@@ -64,14 +57,11 @@ pub fn recover_test(
     requires { IsTrue (is_until_or_none until.now) }
     ensures { IfOk result (λ ts. ts ≡ spelled recover_line (option_map until_values until.now, (option_map incarnation_values inc, (true, tt)))) }
 {
-    let mut spelling = Spelling::new(alloc);
-    spelling.word("RECOVER")?;
-    spelling.word("DATABASE")?;
+    let mut spelling = words(alloc, &["RECOVER", "DATABASE"])?;
     spelling.append(optional_until(alloc, until)?)?;
     spelling.append(optional_incarnation(alloc, inc)?)?;
     spelling.word("TEST")?;
-    spelling.sign(b';')?;
-    Ok(spelling)
+    ended(spelling)
 }
 
 pub fn recover_copy(alloc: Global, tag: &Text, until: &Option<Until>) -> Result<Spelling, NoMemory>
@@ -79,92 +69,57 @@ pub fn recover_copy(alloc: Global, tag: &Text, until: &Option<Until>) -> Result<
     requires until { IsTrue (is_until_or_none until.now) }
     ensures { IfOk result (λ ts. ts ≡ spelled recover_copy_line (tag.now, (option_map until_values until.now, tt))) }
 {
-    let mut spelling = Spelling::new(alloc);
-    spelling.word("RECOVER")?;
-    spelling.word("COPY")?;
-    spelling.word("OF")?;
-    spelling.word("DATABASE")?;
-    spelling.word("WITH")?;
+    let mut spelling = words(alloc, &["RECOVER", "COPY", "OF", "DATABASE", "WITH"])?;
     spelling.tag(tag.as_bytes())?;
     spelling.append(optional_until(alloc, until)?)?;
-    spelling.sign(b';')?;
-    Ok(spelling)
+    ended(spelling)
 }
 
 pub fn crosscheck(alloc: Global, class_of: Class) -> Result<Spelling, NoMemory>
     ensures { IfOk result (λ ts. ts ≡ spelled crosscheck_line (class_choice class_of, tt)) }
 {
-    let mut spelling = Spelling::new(alloc);
-    spelling.word("CROSSCHECK")?;
-    spelling.append(class(alloc, class_of)?)?;
-    spelling.sign(b';')?;
-    Ok(spelling)
+    with_part(alloc, &["CROSSCHECK"], class(alloc, class_of)?)
 }
 
 pub fn change(alloc: Global, id: u64, to: ChangeTo) -> Result<Spelling, NoMemory>
     ensures { IfOk result (λ ts. ts ≡ spelled change_line (id, (change_choice to, tt))) }
 {
-    let mut spelling = Spelling::new(alloc);
-    spelling.word("CHANGE")?;
-    spelling.word("BACKUP")?;
-    spelling.number(id)?;
+    let mut spelling = numbered(alloc, &["CHANGE", "BACKUP"], id)?;
     spelling.append(change_to(alloc, to)?)?;
-    spelling.sign(b';')?;
-    Ok(spelling)
+    ended(spelling)
 }
 
 pub fn delete_obsolete(alloc: Global) -> Result<Spelling, NoMemory>
     ensures { IfOk result (λ ts. ts ≡ spelled delete_line (deletion_choice Obsolete, tt)) }
 {
-    let mut spelling = Spelling::new(alloc);
-    spelling.word("DELETE")?;
-    spelling.word("OBSOLETE")?;
-    spelling.sign(b';')?;
-    Ok(spelling)
+    phrase(alloc, &["DELETE", "OBSOLETE"])
 }
 
 pub fn delete_backup(alloc: Global, id: u64) -> Result<Spelling, NoMemory>
     ensures { IfOk result (λ ts. ts ≡ spelled delete_line (deletion_choice (One id), tt)) }
 {
-    let mut spelling = Spelling::new(alloc);
-    spelling.word("DELETE")?;
-    spelling.word("BACKUP")?;
-    spelling.number(id)?;
-    spelling.sign(b';')?;
-    Ok(spelling)
+    ended(numbered(alloc, &["DELETE", "BACKUP"], id)?)
 }
 
 pub fn delete_expired(alloc: Global, class_of: Class) -> Result<Spelling, NoMemory>
     ensures { IfOk result (λ ts. ts ≡ spelled delete_line (deletion_choice (Expired class_of), tt)) }
 {
-    let mut spelling = Spelling::new(alloc);
-    spelling.word("DELETE")?;
-    spelling.word("EXPIRED")?;
-    spelling.append(class(alloc, class_of)?)?;
-    spelling.sign(b';')?;
-    Ok(spelling)
+    with_part(alloc, &["DELETE", "EXPIRED"], class(alloc, class_of)?)
 }
 
 pub fn retention(alloc: Global, form: RetentionForm) -> Result<Spelling, NoMemory>
     ensures { IfOk result (λ ts. ts ≡ spelled retention_line (retention_choice form, tt)) }
 {
-    let mut spelling = Spelling::new(alloc);
-    spelling.word("CONFIGURE")?;
-    spelling.word("RETENTION")?;
-    spelling.word("POLICY")?;
-    spelling.append(policy(alloc, form)?)?;
-    spelling.sign(b';')?;
-    Ok(spelling)
+    with_part(
+        alloc,
+        &["CONFIGURE", "RETENTION", "POLICY"],
+        policy(alloc, form)?,
+    )
 }
 
 pub fn set_until(alloc: Global, until: &Until) -> Result<Spelling, NoMemory>
     requires { IsTrue (is_until until.now) }
     ensures { IfOk result (λ ts. ts ≡ spelled set_until_line (until_values until.now)) }
 {
-    let mut spelling = Spelling::new(alloc);
-    spelling.word("SET")?;
-    spelling.word("UNTIL")?;
-    spelling.append(point(alloc, until)?)?;
-    spelling.sign(b';')?;
-    Ok(spelling)
+    with_part(alloc, &["SET", "UNTIL"], point(alloc, until)?)
 }
