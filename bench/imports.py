@@ -9,6 +9,8 @@ import sys
 
 WIDTH = 140
 LINE = re.compile(r"^(\s*)((?:ghost )?use )Rattle\.(.*?)(;?)$")
+# A name that the language has for itself can't begin a path.
+RESERVED = {"as", "data", "in", "open", "record", "where"}
 # Definitions come first, then declared types, then lemmas.
 ORDER = {"specs": 0, "declared": 1, "proofs": 2}
 
@@ -24,12 +26,23 @@ def parts_of(text):
     return [part.strip() for part in parts + [text[start:]] if part.strip()]
 
 
+def path_of(text):
+    """Returns the names of a path, each reserved one with that before it."""
+    path = []
+    for name in text.split("."):
+        if name in RESERVED and path:
+            path[-1] += "." + name
+        else:
+            path.append(name)
+    return tuple(path)
+
+
 def imports_of(text):
     """Returns what is imported: pairs of a path and the items that are taken from it, of which a module of its own has none."""
     if not text.endswith("}"):
-        return [(tuple(text.split(".")), None)]
+        return [(path_of(text), None)]
     head, inner = text[:-1].split("{", 1)
-    path = tuple(head.rstrip(".").split("."))
+    path = path_of(head.rstrip("."))
     parts = parts_of(inner)
     deep = [part for part in parts if "." in part or part.endswith("}")]
     names = [part for part in parts if part not in deep]
@@ -39,7 +52,7 @@ def imports_of(text):
 
 def rank(entry):
     path = entry[0]
-    return ORDER["declared"] if "declared" in path[1:3] else ORDER.get(path[1] if len(path) > 1 else "", 0)
+    return ORDER["declared"] if any(name.startswith("declared") for name in path[1:3]) else ORDER.get(path[1] if len(path) > 1 else "", 0)
 
 
 def text_of(entries):
@@ -99,7 +112,7 @@ def written(block):
     crates = {}
     for indent, word, text, end in block:
         for path, names in imports_of(text):
-            crates.setdefault(path[0], []).append((path, names))
+            crates.setdefault(path[0], []).append((path_of(".".join(path)), names))
     indent, word, _, end = block[0]
     return [line for entries in crates.values() for line in lines_of(indent, word, end, entries)]
 

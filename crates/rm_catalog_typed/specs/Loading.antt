@@ -1,6 +1,6 @@
 -- What loading answers.
 use Rattle.std.specs.Prelude.{List, Option, Result, Ok, Err}
-use Rattle.rm_catalog.specs.declared.{catalog.CatalogFault.{CatalogFault}, record.{BaseEntry.{BaseEntry}, Record.{Record}}}
+use Rattle.rm_catalog.specs.{declared.catalog.CatalogFault.{CatalogFault}, declared.record.{BaseEntry.{BaseEntry}, Record.{Record}}}
 use Rattle.rm_history.specs.declared.tree.Incarnation.{Incarnation}
 use Rattle.rm_catalog_typed.specs.{Kinds.{Told, saved_in}, TypedCatalog.{TypedCatalog, all_records}}
 

@@ -2,7 +2,7 @@
 use Rattle.std.specs.Prelude.{◌≡◌, ℕ, List, IsTrue}
 use Rattle.sqlite.specs.State.{HasCleanDisk}
 use Rattle.sqlite_trees.specs.declared.store.Store.{Ghosts}
-use Rattle.rm_catalog.specs.declared.{record.{Record.{Record}, Edit.{Edit}}, keeper.KeeperFail.{KeeperFail}}
+use Rattle.rm_catalog.specs.{declared.record.{Record.{Record}, Edit.{Edit}}, declared.keeper.KeeperFail.{KeeperFail}}
 use Rattle.rm_keeper_sql.specs.{Tables.{IsOurs}, Table.{Takes, Reads, Lists}, SqlKeeper.{state_of, faults_of, number_of}}
 use Rattle.rm_keeper_sql.specs.declared.file.{Unopened.{Unopened}, CatalogFile.{CatalogFile, TheVariants.{Opened, NotOpened}}}
 

@@ -4,7 +4,7 @@ use Rattle.std.proofs.{Common.{◌≡◌, ◌∙◌, List, Option, Some, None, I
 use Rattle.std.proofs.lemmas.List.Sorted.{IsPermutation-sym, IsPermutation-trans}
 use Rattle.rm_base.specs.Store.{Held}
 use Rattle.rm_catalog.specs.{Faults.{Answers, IsBadRow, IsTaken}, Keys.{Ascends, InOrder}, Rules.{IsOrderOf, IsValid}}
-use Rattle.rm_catalog.specs.declared.{catalog.CatalogFault.{CatalogFault, TheVariants.{BadRow}}, record.Record.{Record}}
+use Rattle.rm_catalog.specs.{declared.catalog.CatalogFault.{CatalogFault, TheVariants.{BadRow}}, declared.record.Record.{Record}}
 use Rattle.rm_catalog.proofs.Ascending.{loaded_in_order}
 use Rattle.rm_catalog.specs.declared.catalog.CatalogFault.TheVariants as catalog
 use Rattle.rm_catalog_typed.{specs.{Loading.{records_in}, TypedCatalog.{TypedCatalog, all_records}}, proofs.Valid.{typed_catalog-valid}}

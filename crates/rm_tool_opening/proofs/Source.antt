@@ -1,7 +1,7 @@
 -- What is so of a site that was opened for a call.
 use Rattle.std.{specs.Prelude.{IfOk, OnOk}, proofs.Common.{◌≡◌, ℕ, List, Option, Some, IfSome, Result, Ok, Err, subst}}
 use Rattle.rm_base.specs.Store.{Held}
-use Rattle.rm_catalog.specs.{Faults.{IsBadRow}, declared.{catalog.CatalogFault.TheVariants.{BadRow}, record.Record.{Record}}}
+use Rattle.rm_catalog.specs.{Faults.{IsBadRow}, declared.catalog.CatalogFault.TheVariants.{BadRow}, declared.record.Record.{Record}}
 use Rattle.rm_catalog.proofs.Unique.{none_valid}
 use Rattle.rm_machine_laws.specs.Holds.{View}
 use Rattle.rm_site.specs.Opens.{AreValid, Opens, Shows}

@@ -1,7 +1,8 @@
 -- What the opening of a site comes to, for a call over it.
 use Rattle.std.specs.{Prelude.{ℕ, ◌≡◌, Option, List, [], ◌∷◌, ◌++◌, codes, IfSome}, Fmt.{decimal}}
 use Rattle.rm_base.specs.{Outside.{Appends, Rose}, Store.{Held}}
-use Rattle.rm_catalog.specs.{Faults.{IsBadRow}, declared.{catalog.CatalogFault.TheVariants.{BadRow}, record.{Key.{Key}, Record.{Record}}}}
+use Rattle.rm_catalog.specs.{Faults.{IsBadRow}, declared.catalog.CatalogFault.TheVariants.{BadRow}, declared.record.Key.{Key}}
+use Rattle.rm_catalog.specs.declared.record.Record.{Record}
 use Rattle.rm_machine.specs.{Machine.{Machine}, Rest.{PartsTell, Rest, Wakes}}
 use Rattle.rm_tool_ends.specs.{Writing.{WritesFront}, declared.ended.Ended.{Ended}}
 use Rattle.rm_tool_ends.specs.declared.ended.Ended.TheVariants as ended
