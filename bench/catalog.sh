@@ -77,14 +77,30 @@ for _ in 1 2 3 4 5; do
 done
 echo "median $(median ratios), of the whole program $(median wholes)"
 
-echo '-- 500 applies of three edits, beside bare transactions of three rows of the same sizes'
+# 500 transactions of three rows of the sizes of the base facts, a log and a mark.
+transactions() {
+    echo 'pragma journal_mode = wal; pragma synchronous = full;'
+    sqlite3 one.db '.schema record'
+    awk 'BEGIN {
+        for (i = 0; i < 500; i++) {
+            print "begin;"
+            printf "insert or replace into record values (0, 1, 0, randomblob(31));\n"
+            printf "insert or replace into record values (0, 4, %d, randomblob(68));\n", i
+            printf "insert or replace into record values (0, 6, %d, randomblob(20));\n", i
+            print "commit;"
+        }
+    }'
+}
+
+echo '-- 500 applies of three edits, beside as many transactions of sqlite3 of three rows of the same sizes'
 : > ratios
 for _ in 1 2 3 4 5; do
     rm -f one.db* two.db*
     done_by applies one.db 500 x
     ours=$(micros out)
-    done_by bare two.db 500 x
-    theirs=$(micros out)
+    transactions > text
+    theirs=$(timed sqlite3 two.db '.read text' | tail -1)
+    [ "$(sqlite3 two.db 'select count(*) from record')" = 1001 ] || { echo 'sqlite3 wrote other rows'; exit 1; }
     ratio "$ours" "$theirs" >> ratios
     echo "$(millis "$ours") beside $(millis "$theirs"): $(ratio "$ours" "$theirs")"
 done

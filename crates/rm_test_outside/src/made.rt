@@ -1,8 +1,8 @@
 //! Records of each kind.
 use rm_base::{Kind, NoMemory, Policy, Seq, Status, Text};
 use rm_catalog::{
-    BaseEntry, DatafileEntry, Edit, HeadEntry, IncarnationEntry, LogEntry, MarkEntry, PartEntry,
-    PieceEntry, Record, SetEntry, SetPart, SwitchEntry,
+    BaseEntry, DatafileEntry, Edit, HeadEntry, IncarnationEntry, Key, LogEntry, MarkEntry,
+    PartEntry, PieceEntry, Record, SetEntry, SetPart, SwitchEntry,
 };
 use std::alloc::Global;
 
@@ -142,8 +142,8 @@ fn set_part(file: u32) -> SetPart {
     }
 }
 
-/// A set of so many datafiles.
-pub fn set(alloc: Global, id: u32, status: Status, files: u32) -> Result<Record, NoMemory> {
+// A set of so many datafiles.
+fn set(alloc: Global, id: u32, status: Status, files: u32) -> Result<Record, NoMemory> {
     let mut parts = Seq::new(alloc);
     for file in 1..=files {
         parts.push(set_part(file))?;
@@ -162,8 +162,8 @@ pub fn set(alloc: Global, id: u32, status: Status, files: u32) -> Result<Record,
     }))
 }
 
-/// A switch of a thread.
-pub fn switch(id: u32, thread: u8, scn: u64, on: bool, sequence: u32) -> Record {
+// A switch of a thread.
+fn switch(id: u32, thread: u8, scn: u64, on: bool, sequence: u32) -> Record {
     Record::Switch(SwitchEntry {
         id,
         thread,
@@ -174,8 +174,8 @@ pub fn switch(id: u32, thread: u8, scn: u64, on: bool, sequence: u32) -> Record 
     })
 }
 
-/// Where the database stood.
-pub fn head() -> Record {
+// Where the database stood.
+fn head() -> Record {
     Record::Head(HeadEntry {
         opened: true,
         inc: 0,
@@ -219,9 +219,9 @@ fn put_switches(edits: &mut Vec<Edit>) -> Result<(), NoMemory> {
     Ok(())
 }
 
-/// Puts of records of each kind: each kind of piece, each status, tags of 0 to 30 letters, sets of one
-/// datafile and of three, and switches both ways.
-pub fn all(alloc: Global) -> Result<Vec<Edit>, NoMemory> {
+// Puts of records of each kind: each kind of piece, each status, tags of 0 to 30 letters, sets of one
+// datafile and of three, and switches both ways.
+fn all(alloc: Global) -> Result<Vec<Edit>, NoMemory> {
     let mut edits = one(alloc, base(14, Policy::Redundancy(1)))?;
     edits.push(Edit::Put(incarnation()))?;
     edits.push(Edit::Put(datafile()))?;
@@ -234,4 +234,35 @@ pub fn all(alloc: Global) -> Result<Vec<Edit>, NoMemory> {
     put_sets(alloc, &mut edits)?;
     put_switches(&mut edits)?;
     Ok(edits)
+}
+
+// A put and a drop of one mark, in either order.
+fn mixed(alloc: Global) -> Result<Vec<Edit>, NoMemory> {
+    let edits = [
+        Edit::Put(mark(2)),
+        Edit::Drop(Key { kind: 6, id: 2 }),
+        Edit::Drop(Key { kind: 6, id: 3 }),
+        Edit::Put(mark(3)),
+    ];
+    Ok(Vec::from_array(alloc, edits)?)
+}
+
+// A set and a switch.
+fn newer(alloc: Global) -> Result<Vec<Edit>, NoMemory> {
+    let mut edits = one(alloc, set(alloc, 12, Status::Available, 2)?)?;
+    edits.push(Edit::Put(switch(1, 2, 3, false, 2)))?;
+    Ok(edits)
+}
+
+/// The edits of this name, and none where there is no such name.
+pub fn edits(alloc: Global, name: &str) -> Result<Vec<Edit>, NoMemory> {
+    match name {
+        "all" => all(alloc),
+        "mixed" => mixed(alloc),
+        "newer" => newer(alloc),
+        "window" => one(alloc, base(14, Policy::Window(36_500))),
+        "redundancy" => one(alloc, base(14, Policy::Redundancy(2))),
+        "no policy" => one(alloc, base(14, Policy::Nothing)),
+        _ => Ok(Vec::new(alloc)),
+    }
 }

@@ -6,9 +6,9 @@ use Rattle.rm_catalog.specs.declared.record.Record.{Record}
 use Rattle.rm_tool.specs.Early.{EndsAtScript, EndsAtWords, Faults, Leaves, NoneFalls, RoseAtSink, RoseFor, of_halt, of_unopened, status_for, status_of}
 use Rattle.rm_tool.specs.Run.{Watch}
 use Rattle.rm_tool.specs.Session.{EndsEarly, HasScript, NoneRan, WritesPart, before_statements, in_bad_record, in_bad_words, in_over_long}
-use Rattle.rm_tool.specs.{Words.{drill_of}, declared.{early.Early.{Early}, session.Halt.{Halt}}}
+use Rattle.rm_tool.specs.{Words.{drill_of}, declared.early.{Early.{Early}, Halt.{Halt}}}
 use Rattle.rm_tool.specs.declared.early.Early.TheVariants as early
-use Rattle.rm_tool.specs.declared.session.Halt.TheVariants as halt
+use Rattle.rm_tool.specs.declared.early.Halt.TheVariants as halt
 use Rattle.rm_tool_opening.specs.{Opening.{RoseUnopened, WritesUnopened, TellsValid}, declared.opening.Unopened.{Unopened}}
 use Rattle.rm_tool_opening.specs.declared.opening.Unopened.TheVariants as unopened
 

@@ -3,9 +3,9 @@ use Rattle.std.specs.Prelude.{ℕ, ◌≡◌, ◌<◌, ◌≤◌, Bool, false, O
 use Rattle.rm_base.specs.{Outside.{Appends, Rose}, Store.{Held}}
 use Rattle.rm_catalog.specs.declared.record.Record.{Record}
 use Rattle.rm_tool.specs.{Run.{Watch}, Session.{EndsEarly, HasScript, NoneRan, WritesPart, over_long}, Words.{accepts, drill_of}}
-use Rattle.rm_tool.specs.declared.{early.Early.{Early}, session.Halt.{Halt}}
+use Rattle.rm_tool.specs.declared.early.{Early.{Early}, Halt.{Halt}}
 use Rattle.rm_tool.specs.declared.early.Early.TheVariants as early
-use Rattle.rm_tool.specs.declared.session.Halt.TheVariants as halt
+use Rattle.rm_tool.specs.declared.early.Halt.TheVariants as halt
 use Rattle.rm_tool_opening.specs.{Opening.{TellsValid, WritesBadRecord}, declared.opening.Unopened.{Unopened}}
 use Rattle.rm_tool_opening.specs.declared.opening.Unopened.TheVariants as unopened
 use Rattle.rm_tool_ends.specs.Writing.{WritesFront, bad_words}

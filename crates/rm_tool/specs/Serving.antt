@@ -12,8 +12,8 @@ use Rattle.rm_tool.specs.{Built.{statement_built_at}, Comes.{AtHand, BlockComes,
 use Rattle.rm_tool.specs.Quiet.{are_quiet, is_quiet_statement, only_tells_statement}
 use Rattle.rm_tool.specs.Drill.{IsTally, drill_line, output_of, output_so_far}
 use Rattle.rm_tool.specs.Run.{StatementStep, Run, RunsWhereHonest, IsHonestAlong, IsHonestWithin, past, behind, AreToCome, Watch, WasAskedFor, asks, replies_text}
-use Rattle.rm_tool.specs.declared.{block.Settings.{Settings}, session.Halt.{Halt}, tally.Tally.{Tally}}
-use Rattle.rm_tool.specs.declared.session.Halt.TheVariants as halt
+use Rattle.rm_tool.specs.declared.{block.Settings.{Settings}, early.Halt.{Halt}, tally.Tally.{Tally}}
+use Rattle.rm_tool.specs.declared.early.Halt.TheVariants as halt
 use Rattle.rm_lang_token.specs.declared.token.Token.{Token}
 use Rattle.rm_report.specs.{Reply.{IsFlagged}, Text.{reply_text}, declared.line.Reply.{Reply}}
 use Rattle.rm_machine.specs.{Machine.{Machine}, Rest.{Rest, at_rest}, declared.state.State.{State}}

@@ -1,10 +1,94 @@
-//! Why a run ended early, and the status of each way to end.
+//! Why a run, the statements of a session, or the reading of a script ended early, and the status of each way to end.
 ghost use Rattle.std.specs.Prelude.{◌≡◌};
 ghost use Rattle.rm_tool.specs.Early.{status_of as the_status_of};
 
-use crate::session::Halt;
 use rm_base::{Failed, NoMemory};
+use rm_commit::Stop;
 use rm_tool_opening::Unopened;
+use std::alloc::AllocError;
+
+/// Why a script was not read.
+#[derive(Clone, Copy, PartialEq, Eq)]
+pub enum ReadFault {
+    /// The source failed.
+    Failed,
+    /// More than 4,194,304 bytes were taken.
+    TooLong,
+    NoMemory,
+}
+
+impl From<AllocError> for ReadFault {
+    ghost use Rattle.rm_tool.specs.declared.early.ReadFault.TheVariants.{NoMemory as WithoutMemory};
+
+    ghost from_gives = { λ _ e. e ≡ WithoutMemory };
+
+    fn from(_: AllocError) -> Self {
+        ReadFault::NoMemory
+    }
+}
+
+impl From<NoMemory> for ReadFault {
+    ghost use Rattle.rm_tool.specs.declared.early.ReadFault.TheVariants.{NoMemory as WithoutMemory};
+
+    ghost from_gives = { λ _ e. e ≡ WithoutMemory };
+
+    fn from(_: NoMemory) -> Self {
+        ReadFault::NoMemory
+    }
+}
+
+impl From<Failed> for ReadFault {
+    ghost use Rattle.rm_tool.specs.declared.early.ReadFault.TheVariants.{Failed as OfSource};
+
+    ghost from_gives = { λ _ e. e ≡ OfSource };
+
+    fn from(_: Failed) -> Self {
+        ReadFault::Failed
+    }
+}
+
+/// Why a session ended early.
+#[derive(Clone, Copy, PartialEq, Eq)]
+pub enum Halt {
+    Sink,
+    Store,
+    Keeper,
+    NoMemory,
+}
+
+impl From<NoMemory> for Halt {
+    ghost use Rattle.rm_tool.specs.declared.early.Halt.TheVariants.{NoMemory as WithoutMemory};
+
+    ghost from_gives = { λ _ e. e ≡ WithoutMemory };
+
+    fn from(_: NoMemory) -> Self {
+        Halt::NoMemory
+    }
+}
+
+impl From<Stop> for Halt {
+    ghost use Rattle.rm_tool.specs.Serving.{halt_of};
+
+    ghost from_gives = { λ stop e. e ≡ halt_of stop };
+
+    fn from(stop: Stop) -> Self {
+        match stop {
+            Stop::StoreFault => Halt::Store,
+            Stop::KeeperFault => Halt::Keeper,
+            Stop::NoMemory => Halt::NoMemory,
+        }
+    }
+}
+
+impl From<Failed> for Halt {
+    ghost use Rattle.rm_tool.specs.declared.early.Halt.TheVariants.{Sink as OfSink};
+
+    ghost from_gives = { λ _ e. e ≡ OfSink };
+
+    fn from(_: Failed) -> Self {
+        Halt::Sink
+    }
+}
 
 /// Why a run has not answered each statement of its script, or has not saved what they changed.
 #[derive(Clone, Copy, PartialEq, Eq)]

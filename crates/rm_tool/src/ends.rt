@@ -4,53 +4,14 @@ ghost use Rattle.rm_base.specs.Outside.{HasTaken, Rose};
 ghost use Rattle.rm_tool.specs.{Early.{EndsAtScript, IsOfLong, RoseFor}, Ends.{Counted, TakesMany}, Session.{ScriptOf}};
 
 use crate::early::Early;
-use rm_base::{Failed, NoMemory, Sink, Source};
+pub use crate::early::ReadFault;
+use rm_base::{Sink, Source};
 use rm_drill::drill_script;
 use rm_tool_ends::write_all;
-use std::alloc::{AllocError, Global};
+use std::alloc::Global;
 
 /// The most bytes of a script.
 pub const MOST_BYTES: usize = 4_194_304;
-
-/// Why a script was not read.
-#[derive(Clone, Copy, PartialEq, Eq)]
-pub enum ReadFault {
-    /// The source failed.
-    Failed,
-    /// More than [`MOST_BYTES`] bytes were taken.
-    TooLong,
-    NoMemory,
-}
-
-impl From<AllocError> for ReadFault {
-    ghost use Rattle.rm_tool.specs.declared.ends.ReadFault.TheVariants.{NoMemory as WithoutMemory};
-
-    ghost from_gives = { λ _ e. e ≡ WithoutMemory };
-
-    fn from(_: AllocError) -> Self {
-        ReadFault::NoMemory
-    }
-}
-
-impl From<NoMemory> for ReadFault {
-    ghost use Rattle.rm_tool.specs.declared.ends.ReadFault.TheVariants.{NoMemory as WithoutMemory};
-
-    ghost from_gives = { λ _ e. e ≡ WithoutMemory };
-
-    fn from(_: NoMemory) -> Self {
-        ReadFault::NoMemory
-    }
-}
-
-impl From<Failed> for ReadFault {
-    ghost use Rattle.rm_tool.specs.declared.ends.ReadFault.TheVariants.{Failed as OfSource};
-
-    ghost from_gives = { λ _ e. e ≡ OfSource };
-
-    fn from(_: Failed) -> Self {
-        ReadFault::Failed
-    }
-}
 
 /// Reads to the end of the source, in pieces of at most 512 bytes. It stops at the first failure,
 /// and where more than [`MOST_BYTES`] bytes were taken. After want of memory nothing is known but

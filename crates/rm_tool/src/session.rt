@@ -9,8 +9,9 @@ ghost use Rattle.rm_tool.specs.Serving.{IsServed, IsCutShort, FromEach, Serves, 
 use crate::block::serve_block;
 use crate::built::built_statement;
 use crate::drill::{Nowhere, Summary, write_line};
+use crate::early::Halt;
 use crate::tally::Tally;
-use rm_base::{Clock, Failed, NoMemory, Refusal, Seq, Sink, Store};
+use rm_base::{Clock, Refusal, Seq, Sink, Store};
 use rm_catalog::Keeper;
 use rm_channel::Gate;
 use rm_commit::Stop;
@@ -22,49 +23,6 @@ use rm_tool_opening::Site;
 use std::alloc::Global;
 use std::sync::Wait;
 use std::thread::Threads;
-
-/// Why a session ended early.
-#[derive(Clone, Copy, PartialEq, Eq)]
-pub enum Halt {
-    Sink,
-    Store,
-    Keeper,
-    NoMemory,
-}
-
-impl From<NoMemory> for Halt {
-    ghost use Rattle.rm_tool.specs.declared.session.Halt.TheVariants.{NoMemory as WithoutMemory};
-
-    ghost from_gives = { λ _ e. e ≡ WithoutMemory };
-
-    fn from(_: NoMemory) -> Self {
-        Halt::NoMemory
-    }
-}
-
-impl From<Stop> for Halt {
-    ghost use Rattle.rm_tool.specs.Serving.{halt_of};
-
-    ghost from_gives = { λ stop e. e ≡ halt_of stop };
-
-    fn from(stop: Stop) -> Self {
-        match stop {
-            Stop::StoreFault => Halt::Store,
-            Stop::KeeperFault => Halt::Keeper,
-            Stop::NoMemory => Halt::NoMemory,
-        }
-    }
-}
-
-impl From<Failed> for Halt {
-    ghost use Rattle.rm_tool.specs.declared.session.Halt.TheVariants.{Sink as OfSink};
-
-    ghost from_gives = { λ _ e. e ≡ OfSink };
-
-    fn from(_: Failed) -> Self {
-        Halt::Sink
-    }
-}
 
 // One statement: a step of the machine at the clock's next answer, or those of a RUN, or the refusal of one that is not
 // of the grammar or not built, for which the clock is not asked.
