@@ -81,10 +81,7 @@ pub fn beside(rt: &HostRuntime, verb: &str, path: &str) -> io::Result<()> {
         "there" => tell_there(rt, path),
         "text" => tell_text(rt, path),
         "same" => tell_same(rt, path),
-        "away" => {
-            let _ = fs::remove_dir_all(rt, path);
-            Ok(())
-        }
+        "away" => fs::remove_dir_all(rt, path),
         _ => make(rt, verb, path),
     }
 }
