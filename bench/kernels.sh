@@ -8,6 +8,6 @@ top=$(dirname "$(dirname "$(readlink -f "$0")")")
 room=$(mktemp -d)
 tar -C "$top" --exclude out --exclude must-fail -cf - HANDLES crates.txt crates | tar -C "$room" -xf -
 cp -r "$top/bench/rm_bench" "$room/crates/"
-cat "$top/bench/rm_bench/crates.txt" >> "$room/crates.txt"
+cat "$top/bench/rm_bench/uses" >> "$room/crates.txt"
 (cd "$room" && rt ci rm_bench) >&2
 printf '%s\n' "$room/crates/rm_bench/out/rm_bench"
