@@ -38,6 +38,13 @@ impl Unopened {
         }
     }
 
+    // One whose calls fail by this fault.
+    fn by(alloc: Global, fault: Fault) -> Self
+        ensures faults { faults_without result ≡ 0 }
+    {
+        Unopened::new(fail_of(fault), words_of(alloc, fault))
+    }
+
     // Counts a failure, and no want of memory.
     fn fail(&mut self) -> KeeperFail
         ensures result { result ≡ cause_of self.old }
@@ -160,6 +167,12 @@ fn make(rt: &HostRuntime, path: &str) -> Result<(), Fault> {
     }
 }
 
+// A connection to the file of this path, which is made where it is missing.
+fn connect(rt: &HostRuntime, path: &str) -> Result<Connection<FileStore<File>>, Fault> {
+    make(rt, path)?;
+    Ok(Connection::open(rt, path)?)
+}
+
 impl CatalogFile<FileStore<File>> {
     ghost use Rattle.rm_keeper_sql.specs.CatalogFile.{faults_in, number_in};
 
@@ -169,9 +182,16 @@ impl CatalogFile<FileStore<File>> {
         ensures faults { faults_in result ≡ 0 }
         ensures number { number_in result ≡ 0 }
     {
-        match make(rt, path) {
-            Ok(()) => CatalogFile::over(rt.alloc(), Connection::open(rt, path)),
-            Err(fault) => CatalogFile::not(rt.alloc(), fault),
+        let alloc = rt.alloc();
+        match connect(rt, path) {
+            Ok(connection) => CatalogFile::Opened(SqlKeeper {
+                connection,
+                alloc,
+                faults: Count::none(),
+                number: 0,
+                last_fault: None,
+            }),
+            Err(fault) => CatalogFile::NotOpened(Unopened::by(alloc, fault)),
         }
     }
 }
@@ -181,7 +201,7 @@ impl<S: Start> CatalogFile<FileStore<FileFrom<S>>> {
     /// loses nothing.
     pub fn close(self) -> Result<(), KeeperFail> {
         match self {
-            CatalogFile::Opened(keeper) => match keeper.close().close() {
+            CatalogFile::Opened(SqlKeeper { connection, .. }) => match connection.close() {
                 Ok(()) => Ok(()),
                 Err(error) => Err(fail_of(Fault::Sqlite(error))),
             },
@@ -191,27 +211,6 @@ impl<S: Start> CatalogFile<FileStore<FileFrom<S>>> {
 }
 
 impl<S: Alter> CatalogFile<S> {
-    ghost use Rattle.rm_keeper_sql.specs.CatalogFile.{faults_in, number_in};
-
-    // In place of one that could not be opened.
-    fn not(alloc: Global, fault: Fault) -> Self
-        ensures faults { faults_in result ≡ 0 }
-        ensures number { number_in result ≡ 0 }
-    {
-        CatalogFile::NotOpened(Unopened::new(fail_of(fault), words_of(alloc, fault)))
-    }
-
-    // Over a connection, or in place of one that could not be opened.
-    fn over(alloc: Global, opened: Result<Connection<S>, Error>) -> Self
-        ensures faults { faults_in result ≡ 0 }
-        ensures number { number_in result ≡ 0 }
-    {
-        match opened {
-            Ok(connection) => CatalogFile::Opened(SqlKeeper::open(alloc, connection)),
-            Err(error) => CatalogFile::not(alloc, Fault::Sqlite(error)),
-        }
-    }
-
     /// Why it failed last, in words of sqlite or of the system. None where it has not failed, or where memory
     /// was wanting for the words.
     pub fn last_fault(&self) -> Option<&str> {
