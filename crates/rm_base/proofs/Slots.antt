@@ -1,7 +1,20 @@
 -- What stands at a place of a list, and after one was set, added or changed.
 use Rattle.std.specs.Option.{option_map}
-use Rattle.std.proofs.Common.{◌≡◌, ◌≢◌, ◌∙◌, ◌++◌, ◌⊎◌, inl, inr, ℕ, zero, suc, List, [], ◌∷◌, Option, Some, None, refl, ap, subst, arith, length, map, All, slice_get, slice_set, slice_index_or}
+use Rattle.std.proofs.Common.{◌≡◌, ◌≢◌, ◌∙◌, ◌++◌, ◌⊎◌, inl, inr, ℕ, zero, suc, List, [], ◌∷◌, Option, Some, None, IsSome, refl, ap, subst, arith, length, map, All, slice_get, slice_set, slice_index_or}
 use Rattle.std.proofs.lemmas.{Option.{slice_get_within, get_or_from_slice_get}, List.Elements.{All-cons, All-get_or, All-nil}}
+
+-- at the place that was set stands the new item, and at another one what stood there
+pub get-set_same : {X : Type 0} (xs : List X) (k : ℕ) (v : X) → IsSome (slice_get xs k) → slice_get (slice_set xs k v) k ≡ Some v
+get-set_same [] k v there = absurd (cc there)
+get-set_same (x ∷ xs) zero v there = refl
+get-set_same (x ∷ xs) (suc k) v there = get-set_same xs k v there
+
+pub get-set_other : {X : Type 0} (xs : List X) (k j : ℕ) (v : X) → j ≢ k → slice_get (slice_set xs k v) j ≡ slice_get xs j
+get-set_other [] k j v other = refl
+get-set_other (x ∷ xs) zero zero v other = absurd (other refl)
+get-set_other (x ∷ xs) zero (suc j) v other = refl
+get-set_other (x ∷ xs) (suc k) zero v other = refl
+get-set_other (x ∷ xs) (suc k) (suc j) v other = get-set_other xs k j v (λ e. other (ap (λ n. suc n) e))
 
 -- an item after another was set: the one that was set, or another that was there
 pub get-set : {X : Type 0} (xs : List X) (k j : ℕ) (v y : X) → slice_get (slice_set xs k v) j ≡ Some y → ((j ≡ k) × (v ≡ y)) ⊎ ((j ≢ k) × (slice_get xs j ≡ Some y))

@@ -7,7 +7,8 @@ use Rattle.rm_history.specs.{Agrees.{BaseAgrees, IsRow}, History.{IsHistory}, St
 use Rattle.rm_history.{specs.declared.world.{Datafile.{Datafile}, World.{World}}, proofs.States.{concerns-parts, concerns-risen, state-one}}
 use Rattle.rm_blocks.specs.File.{base_of, created, created_rows}
 
-created-all : (P : Row → Type 0) (creation blocks : ℕ) → ((b : ℕ) → P (created_row creation b)) → All P (created_rows creation blocks)
+-- what is true of each row of a created datafile is true of all
+pub created-all : (P : Row → Type 0) (creation blocks : ℕ) → ((b : ℕ) → P (created_row creation b)) → All P (created_rows creation blocks)
 created-all P creation zero each = All-nil P
 created-all P creation (suc b) each = All-push P (created_rows creation b) (created_row creation b) (created-all P creation b each) (each b)
 

@@ -1,9 +1,9 @@
 -- The last switch of a thread, and where the same threads are enabled.
-use Rattle.std.proofs.Common.{◌≡◌, ◌<◌, ◌≤◌, ◌∙◌, ◌==◌, ◌&&◌, ◌⊎◌, inl, inr, nat_le, ℕ, List, [], ◌∷◌, ◌++◌, Option, Some, None, Bool, true, false, cond, fold, refl, ap, sym, subst, arith, eqb, get_or, All, Contains}
+use Rattle.std.proofs.Common.{◌≡◌, ◌≤◌, ◌∙◌, ◌==◌, ◌&&◌, ◌⊎◌, inl, inr, nat_le, ℕ, List, [], ◌∷◌, ◌++◌, Option, Some, None, Bool, true, false, cond, fold, refl, ap, sym, subst, arith, eqb, get_or, All}
 use Rattle.std.proofs.lemmas.Bool.{and_from, and_left, and_parts, and_right, cases_Bool, cases_lt, eq-eqb, eqb-true, le-leb, leb-true}
 use Rattle.std.proofs.lemmas.{Bool.Decides.{nat_tests}, List.{append-nil, append_assoc, Elements.{All-head, All-tail}, Sums.{fold-append}}}
 use Rattle.rm_base.{specs.Choice.{IsChoice}, proofs.Choices.{choice_passed, choice_only, choice_taken, choice_stays}}
-use Rattle.rm_base.proofs.{Lists.{front_or_end}, Members.{none-in}}
+use Rattle.rm_base.proofs.{Members.{none-in}}
 use Rattle.rm_history.specs.Threads.{applies, is_last, after_switch, last_switch, is_on, is_enabled, IsEnabled}
 use Rattle.rm_history.specs.{Tree.{HasParentsBelow, owner}, World.{with_switch, with_tree}, declared.tree.Incarnation.{Incarnation}}
 use Rattle.rm_history.{specs.declared.world.{Switch.{Switch}, World.{World}}, proofs.Owners.{owner-owner}}

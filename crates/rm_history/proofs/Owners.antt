@@ -80,7 +80,7 @@ reset-there tree i d there = ap (λ o. option_map_or (λ n. n.reset) o 0) (incar
 pub end-there : (tree : List Incarnation) (i : ℕ) (d : Incarnation) → IsThere tree i → end_of tree i ≡ (slice_index_or tree (i - 1) d).end
 end-there tree i d there = ap (λ o. option_map_or (λ n. n.end) o 0) (incarnation-there tree i d there)
 
-le_true : (a b : ℕ) → a ≤ b → nat_le a b ≡ true
+pub le_true : (a b : ℕ) → a ≤ b → nat_le a b ≡ true
 le_true a b h = grind (arith, nat_tests)
 
 le_false : (a b : ℕ) → b < a → nat_le a b ≡ false

@@ -5,7 +5,7 @@ use Rattle.std.proofs.lemmas.Bool.{cases_eq, eq-eqb, ne_eqb, false_from_ne_true,
 use Rattle.rm_base.{specs.Numbers.{last_scn}, proofs.Members.{first-or-rest, in-front}}
 use Rattle.rm_history.specs.Tree.{HasParentsBelow, IsTree, IsThere, IsShared, owner, parent_of, reset_of, path, ancestors, segment_end, is_on_path, IsProperAncestor, is_within}
 use Rattle.rm_history.{specs.declared.tree.Incarnation.{Incarnation}, proofs.States.{both-hold}}
-use Rattle.rm_history.proofs.Owners.{owner-owner, owner-above, path-step}
+use Rattle.rm_history.proofs.Owners.{le_true, owner-owner, owner-above, path-step}
 use Rattle.rm_history.proofs.Paths.{path-below, segment_end-here, segment_end-above, segment_end-some, is_on_path-member}
 
 -- where two paths have one owner of g, they have the same owners up to g
@@ -125,9 +125,6 @@ below_start tree is i j high there held differ (Some end) at within =
     let most : high ≤ end = le_holds high end within in
     let low = (segment_of tree is i i j end (omega arith) there.1 up.0 held differ at).low in
     omega (arith, most, low)
-
-le_true : (a b : ℕ) → a ≤ b → nat_le a b ≡ true
-le_true a b h = grind (arith, nat_tests)
 
 within_of : (o : Option ℕ) (high end : ℕ) → o ≡ Some end → option_map_or (λ e. nat_le high e) o true ≡ true → high ≤ end
 within_of o high end at within = le_holds high end (sym (ap (λ x. option_map_or (λ e. nat_le high e) x true) at) ∙ within)

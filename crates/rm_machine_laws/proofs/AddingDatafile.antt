@@ -6,7 +6,7 @@ use Rattle.std.proofs.lemmas.List.Elements.{All-contains, All-contains_itself, A
 use Rattle.std.proofs.lemmas.Option.{slice_get_past, slice_get_within}
 use Rattle.rm_base.specs.{Created.{created_row}, Store.{Held}, declared.block.{Change.{Change}, Row.{Row}}}
 use Rattle.rm_base.proofs.{Members.{first-or-rest, none-in, slice_get-front}, Slots.{get-index, get-push, index-get}}
-use Rattle.rm_blocks.{specs.File.{File, created, created_rows, standing}, proofs.Rows.{in_order-created, length-created}}
+use Rattle.rm_blocks.{specs.File.{File, created, created_rows, standing}, proofs.{Created.{created-all}, Rows.{in_order-created, length-created}}}
 use Rattle.rm_lang_statement.specs.{IsCommand.{is_command}, declared.command.Command.TheVariants.{CreateDatafile}}
 use Rattle.rm_history.specs.{State.{state}, Tree.{IsThere, reset_of}, World.{blocks_of, creation_of, exists, file_of, with_file}}
 use Rattle.rm_history.specs.declared.{tree.Incarnation.{Incarnation}, world.{Datafile.{Datafile}, World.{World}}}
@@ -26,11 +26,6 @@ use Rattle.rm_machine_laws.proofs.{DamagedRows.{but-damaged, sound-agrees}, Furt
 use Rattle.rm_machine_laws.proofs.{Grown.{SameHistory, true-on}, Leading.{LeadsOnBy, StaysBy}, Quiet.{quiet-on, quiet-stays}}
 
 -- A new datafile
-
--- what is true of the row of each block is true of all rows of a new datafile
-created-all : (P : Row → Type 0) (creation : ℕ) → ((b : ℕ) → P (created_row creation b)) → (blocks : ℕ) → All P (created_rows creation blocks)
-created-all P creation each zero = All-nil P
-created-all P creation each (suc b) = All-push P (created_rows creation b) (created_row creation b) (created-all P creation each b) (each b)
 
 get-last : (xs : List Datafile) (y : Datafile) → slice_get (xs ++ y ∷ []) (length xs) ≡ Some y
 get-last [] y = refl
@@ -116,11 +111,11 @@ module _ (s : State) (blocks : ℕ) (sound : IsSound s) (a : HasRoom s blocks) (
         file = refl;
         blocks = length-created now blocks;
         order = in_order-created now blocks;
-        rows = created-all IsPlacedRow now (λ b. record { version = begun.0; content = refl }) blocks;
+        rows = created-all IsPlacedRow now blocks (λ b. record { version = begun.0; content = refl });
         there = (keeps-further s sound a.on).there i there;
         checkpoint = omega (arith, end);
         high = high-bound (now_of p) (now_of p) (created_rows now blocks) (omega arith)
-            (λ r has. All-contains (λ (r : Row). r.version < now_of p) (created_rows now blocks) r (created-all (λ r. r.version < now_of p) now (λ b. omega (arith, end)) blocks) has);
+            (λ r has. All-contains (λ (r : Row). r.version < now_of p) (created_rows now blocks) r (created-all (λ r. r.version < now_of p) now blocks (λ b. omega (arith, end))) has);
       }
 
   place-after : (k : ℕ) (e : Datafile) (x : File) → slice_get q.catalog.ledger.files k ≡ Some e → slice_get q.instance.place k ≡ Some (Some x) → IsPlaced tree k e (standing x i (now_of p))
@@ -244,8 +239,8 @@ module _ (s : State) (blocks : ℕ) (sound : IsSound s) (a : HasRoom s blocks) (
     rows-new : RowsAre (world q) h i (now_of p) file
     rows-new =
         let f = length files + 1 in
-        created-all (λ r. r ≡ state (world q) h i (now_of p) f r.block) now
-        (λ b. sym (state-untouched (world q) h i (now_of p) f b none-of-new ∙ ap (λ n. created_row n b) creation-new)) blocks
+        created-all (λ r. r ≡ state (world q) h i (now_of p) f r.block) now blocks
+        (λ b. sym (state-untouched (world q) h i (now_of p) f b none-of-new ∙ ap (λ n. created_row n b) creation-new))
 
     -- the rows of the others are as they were
     rows-old : (f : ℕ) (x : File) → placed s f ≡ Some x → SoundRowsAre s.instance.damaged (world q) h i (now_of p) x

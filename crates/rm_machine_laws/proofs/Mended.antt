@@ -4,7 +4,7 @@ use Rattle.std.proofs.Common.{◌≡◌, ◌≢◌, ◌<◌, ◌-◌, ◌∙◌,
 use Rattle.std.proofs.lemmas.{Bool.{and_from, and_parts, cases_Bool, cases_eq, eq-eqb, or_parts}, List.{append-nil}}
 use Rattle.std.proofs.lemmas.List.Elements.{All-contains, All-weaker}
 use Rattle.rm_base.specs.{Store.{Held}, declared.block.{BlockId.{BlockId}, Change.{Change}, Row.{Row}}}
-use Rattle.rm_base.proofs.{Lists.{filter_from, filter_to}, Slots.{all-get, all-set_others, index-set}}
+use Rattle.rm_base.proofs.{Lists.{filter_from, filter_to}, Slots.{all-get, all-set_others, get-set_other, index-set}}
 use Rattle.rm_blocks.specs.File.{File, put}
 use Rattle.rm_history.{specs.State.{state}, proofs.Worlds.{file-there}}
 use Rattle.rm_lang_statement.specs.declared.command.WriteForm.{WriteForm}
@@ -21,13 +21,6 @@ use Rattle.rm_machine_laws.proofs.{DamagedLists.{any-fewer, same-block}, Damaged
 use Rattle.rm_machine_laws.proofs.WritesKeep.{state-write}
 
 -- A block that is neither mended nor written
-
-get-set_other : (rows : List Row) (k b : ℕ) (row : Row) → b ≢ k → slice_get (slice_set rows k row) b ≡ slice_get rows b
-get-set_other [] k b row other = refl
-get-set_other (r ∷ rows) zero zero row other = absurd (other refl)
-get-set_other (r ∷ rows) zero (suc b) row other = refl
-get-set_other (r ∷ rows) (suc k) zero row other = refl
-get-set_other (r ∷ rows) (suc k) (suc b) row other = get-set_other rows k b row (λ e. other (ap (λ n. suc n) e))
 
 row-put : (u : State) (g : ℕ) (row : Row) (f b : ℕ) (x : File) → 0 < g → 0 < f → placed u g ≡ Some x → ((g == f) && (row.block == b)) ≡ false → placed_row (with_placed_row u g row) f b ≡ placed_row u f b
 row-put u g row f b x some there stands other = elim (cases_eq g f) [

@@ -3,7 +3,7 @@ use Rattle.std.specs.{List.{list_any}, Option.{option_map_or}, Str.{bytes_eq}}
 use Rattle.std.proofs.Common.{◌≡◌, ◌≢◌, ◌∙◌, ◌⊎◌, ◌==◌, ◌&&◌, ◌||◌, ◌+◌, ◌≤◌, inl, inr, ℕ, zero, suc, Bool, true, false, Option, Some, None, Ok, Err, IsSome, is_some, List, [], ◌∷◌, ◌++◌, All, Contains, cond, find, map, slice_get, slice_set, refl, ap, subst, sym, arith}
 use Rattle.std.proofs.lemmas.{Bool.{and_from, and_parts, cases_Bool, eq-eqb, eqb-true, or_parts}, List.Elements.{All-contains, All-weaker}}
 use Rattle.std.proofs.lemmas.Slice.Eq.{bytes_eq-Decides}
-use Rattle.rm_base.{specs.declared.block.Row.{Row}, proofs.Members.{behind, in-front}}
+use Rattle.rm_base.{specs.declared.block.Row.{Row}, proofs.{Members.{behind, in-front}, Slots.{get-set_other, get-set_same}}}
 use Rattle.rm_blocks.specs.File.{File, put}
 use Rattle.rm_live.specs.{History.{IsLegal, IsRight, after, fold_of}, Parts.{Parts, row_at, with_put}, Ruled.{one_if, total}}
 use Rattle.rm_live.specs.declared.history.{Answer.{Answer, TheVariants.{Found, Mended, Wrote}}, Call.{Call}}
@@ -14,18 +14,6 @@ use Rattle.rm_repair.specs.Mended.{HasBlock, RowsAreBehind, is_mend_of, is_mende
 use Rattle.rm_repair.specs.declared.jobs.MendJob.{MendJob}
 
 -- One row
-
-get-set_other : (rows : List Row) (k b : ℕ) (row : Row) → b ≢ k → slice_get (slice_set rows k row) b ≡ slice_get rows b
-get-set_other [] k b row other = refl
-get-set_other (r ∷ rows) zero zero row other = absurd (other refl)
-get-set_other (r ∷ rows) zero (suc b) row other = refl
-get-set_other (r ∷ rows) (suc k) zero row other = refl
-get-set_other (r ∷ rows) (suc k) (suc b) row other = get-set_other rows k b row (λ e. other (ap (λ n. suc n) e))
-
-get-set_same : (rows : List Row) (k : ℕ) (row : Row) → IsSome (slice_get rows k) → slice_get (slice_set rows k row) k ≡ Some row
-get-set_same [] k row there = absurd (cc there)
-get-set_same (r ∷ rows) zero row there = refl
-get-set_same (r ∷ rows) (suc k) row there = get-set_same rows k row there
 
 other-by : (x : File) (xs : List File) (g : ℕ) (row : Row) (f b : ℕ) (is_g is_f : Bool) → (x.file == g) ≡ is_g → (x.file == f) ≡ is_f → ((g == f) && (row.block == b)) ≡ false → row_at (with_put xs g row) f b ≡ row_at xs f b
     → row_at (cond is_g (put x row ∷ xs) (x ∷ with_put xs g row)) f b ≡ row_at (x ∷ xs) f b

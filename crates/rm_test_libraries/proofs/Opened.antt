@@ -3,17 +3,13 @@ use Rattle.std.specs.{Global.{Global}, Option.{option_map_or}}
 use Rattle.std.proofs.Common.{◌≡◌, ℕ, zero, suc, ◌+◌, ◌-◌, ◌<◌, ◌≤◌, Bool, true, false, Option, Some, IsSome, Vec, List, [], ◌∷◌, length, map, replicate, slice_get, get_or, All, refl, sym, ap, ◌∙◌, subst, arith}
 use Rattle.std.proofs.lemmas.List.{length-map, Elements.{All-cons, All-head, All-nil, All-push, All-tail}}
 use Rattle.rm_base.specs.{Created.{created_row}, Numbers.{last_scn}, declared.block.Row.{Row}}
-use Rattle.rm_blocks.{specs.File.{File, created, created_rows}, proofs.Rows.{length-created}}
+use Rattle.rm_blocks.{specs.File.{File, created, created_rows}, proofs.{Created.{created-all}, Rows.{length-created}}}
 use Rattle.rm_redo.specs.Online.{IsLost, IsThread, fresh_log, fresh_logs, log_where, no_log, thread_records, up_to}
 use Rattle.rm_redo.specs.declared.online.ThreadLog.{ThreadLog}
 use Rattle.rm_live.specs.{Parts.{IsSound, Parts}, Passes.{IsLater, Standing}, Ruled.{total}}
 use Rattle.rm_channel.specs.{Jobs.{lists}, Room.{AreThreads, CanWrite, HasBlock, HaveRoom, IsThere}, declared.jobs.CopyJob.{CopyJob}}
 use Rattle.rm_channel.specs.declared.jobs.WriteJob.{WriteJob}
 use Rattle.rm_test_libraries.specs.Small.{AreWrites, IsOfFile, opening}
-
-rows-below : (blocks now : ℕ) → 2 ≤ now → All (λ (r : Row). r.version < now) (created_rows 1 blocks)
-rows-below zero now some = All-nil (λ (r : Row). r.version < now)
-rows-below (suc b) now some = All-push (λ (r : Row). r.version < now) (created_rows 1 b) (created_row 1 b) (rows-below b now some) (omega arith)
 
 -- file 1 of so many blocks, and so many threads
 abbrev opening_of : ℕ → ℕ → ℕ → Parts
@@ -31,7 +27,7 @@ sound blocks threads now some low = record {
   begun = omega arith;
   last = low;
   first = each-log (λ l. l.first ≤ now) (omega arith) (omega arith) (up_to threads);
-  rows = All-cons (λ (x : File). All (λ (r : Row). r.version < now) x.rows) (created 1 1 1 blocks) [] (rows-below blocks now some) (All-nil (λ (x : File). All (λ (r : Row). r.version < now) x.rows));
+  rows = All-cons (λ (x : File). All (λ (r : Row). r.version < now) x.rows) (created 1 1 1 blocks) [] (created-all (λ (r : Row). r.version < now) 1 blocks (λ b. omega (arith, some))) (All-nil (λ (x : File). All (λ (r : Row). r.version < now) x.rows));
   records = each-log (λ l. All (λ r. r.scn < now) l.records) (All-nil (λ r. r.scn < now)) (All-nil (λ r. r.scn < now)) (up_to threads);
 }
 
