@@ -1,7 +1,7 @@
 #!/bin/sh
 # Tells the lines of the page of figures:
 #     bench/run.sh [PROGRAM [KERNELS]] | tee LINES | bench/page.py
-# PROGRAM is the program as it was built (./rman), and KERNELS rm_bench, which kernels.sh proves and builds where it is not named. First come the
+# PROGRAM is the program as it was built (./rman), and KERNELS rm_bench, which is proved and built where it is not named. First come the
 # kernels beside plain loops, the bytes of pieces and logs beside SHA-256 alone, gathering and planning, turns of a live database and
 # its copies by channels; then sha256sum alone, and what PROGRAM takes: scripts.sh, growth.sh, sessions.sh, drill.py, sets.py and channels.py in time
 # (this one of a program as it was built), then peak.py in memory, and level1.py, mending.py, functions.py and looking.py in instructions (likewise; they want valgrind).
@@ -9,8 +9,11 @@
 set -eu
 cd "$(dirname "$0")/.."
 program=${1:-./rman}
-kernels=${2:-$(bench/kernels.sh)}
-"$kernels" large
+if [ $# -gt 1 ]; then
+    "$2" large
+else
+    (cd crates/rm_bench && rt run -- large)
+fi
 
 size=4980818
 file=$(mktemp)
@@ -33,7 +36,7 @@ bench/sessions.sh "$program"
 bench/drill.py 0 "$program"
 bench/sets.py --figures "$program"
 if [ "$program" != ./rman ]; then
-    bench/channels.py "$program" 9 "$kernels"
+    bench/channels.py "$program" 9 "${2:-crates/rm_bench/out/rm_bench}"
     bench/peak.py "$program"
 fi
 if [ "$program" != ./rman ] && command -v valgrind > /dev/null; then

@@ -354,7 +354,7 @@ def callers():
     found = collections.defaultdict(list)
     for line in read("crates.txt").splitlines():
         name, _, below = line.partition(":")
-        for port in below.split() if not name.startswith(("#", "rm_test")) else []:
+        for port in below.split() if not name.startswith(("#", "rm_test", "rm_bench")) else []:
             if not port.startswith("rm"):
                 found[port].append(name)
     return wrapped([f"`{port}` ({' '.join(sorted(by))})" for port, by in sorted(found.items())])

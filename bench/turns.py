@@ -1,7 +1,7 @@
 #!/usr/bin/env python3
 """Copies and the drill's script by 1, 2, 4 and 16 channels, alone and beside as many busy processes as there are processors:
-    bench/turns.py [TIMES [PROGRAM [KERNELS]]]
-Runs KERNELS (rm_bench, which kernels.sh proves and builds), whose copies of 65,536 blocks are timed, and PROGRAM (./rman) on the drill's script: 20 BACKUPs
+    bench/turns.py [TIMES] [PROGRAM]
+Proves and builds rm_bench, whose copies of 65,536 blocks are timed, and runs PROGRAM (./rman) on the drill's script: 20 BACKUPs
 of four datafiles while two threads write, then all is restored and recovered. Each of TIMES rounds (10) goes through the
 channels one after the other, so that each time stands beside that of one channel; the shortest and the longest are told, and
 the median and the worst of these ratios."""
@@ -37,9 +37,9 @@ def drill(number=7):
     yield "STARTUP FORCE MOUNT; RESTORE DATABASE; RECOVER DATABASE; ALTER DATABASE OPEN; VALIDATE ALL;"
 
 
-def copies(kernels):
+def copies():
     """How many microseconds a copy takes, by channels."""
-    done = subprocess.run([kernels, "copies"], stdout=subprocess.PIPE, check=True)
+    done = subprocess.run([f"{TOP}/crates/rm_bench/out/rm_bench", "copies"], stdout=subprocess.PIPE, check=True)
     return {int(m[1]): int(m[2]) for m in re.finditer(r"channels (\d+): \d+ blocks (\d+) us", done.stdout.decode())}
 
 
@@ -66,13 +66,13 @@ def tell(name, rounds):
 def main():
     times = int(sys.argv[1]) if len(sys.argv) > 1 else 10
     program = os.path.abspath(sys.argv[2]) if len(sys.argv) > 2 else f"{TOP}/rman"
-    kernels = sys.argv[3] if len(sys.argv) > 3 else subprocess.check_output([f"{TOP}/bench/kernels.sh"], text=True).strip()
+    subprocess.run(["rt", "run", "--", "copies"], cwd=f"{TOP}/crates/rm_bench", stdout=subprocess.DEVNULL, check=True)
     script = "\n".join(drill()).encode()
     for where in ["alone", "beside busy processes"]:
         busy = [] if where == "alone" else [subprocess.Popen(["sh", "-c", "while :; do :; done"]) for _ in range(os.cpu_count())]
         try:
             print(f"load {os.getloadavg()[0]:.1f}")
-            tell(f"copy {where}", [copies(kernels) for _ in range(times)])
+            tell(f"copy {where}", [copies() for _ in range(times)])
             tell(f"drill {where}", [drills(program, script) for _ in range(times)])
         finally:
             for process in busy:
