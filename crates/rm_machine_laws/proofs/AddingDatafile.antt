@@ -2,7 +2,7 @@
 use Rattle.std.specs.Option.{option_and_then, option_map_or}
 use Rattle.std.proofs.Common.{◌≡◌, ◌≢◌, ◌<◌, ◌≤◌, ◌+◌, ◌-◌, ◌∙◌, ◌++◌, ◌⊎◌, ◌^◌, nat_le, inl, inr, ℕ, zero, suc, List, [], ◌∷◌, Option, Some, None, IsSome, is_some, Bool, true, false, cond, refl, ap, sym, subst, arith, length, length-append, All, Contains, slice_get, slice_index_or}
 use Rattle.std.proofs.lemmas.{Bool.{and_parts, cases_eq, cases_lt, leb-true, ne_eqb}, List.{length-replicate}}
-use Rattle.std.proofs.lemmas.List.Elements.{All-contains, All-contains_itself, All-nil, All-push, All-weaker}
+use Rattle.std.proofs.lemmas.List.Elements.{All-contains, All-contains_itself, All-nil, All-weaker}
 use Rattle.std.proofs.lemmas.Option.{slice_get_past, slice_get_within}
 use Rattle.rm_base.specs.{Created.{created_row}, Store.{Held}, declared.block.{Change.{Change}, Row.{Row}}}
 use Rattle.rm_base.proofs.{Members.{first-or-rest, none-in, slice_get-front}, Slots.{get-index, get-push, index-get}}

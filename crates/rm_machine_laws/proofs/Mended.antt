@@ -1,6 +1,6 @@
 -- Along the events of a BLOCKRECOVER the database fits its history, but for the blocks that are still damaged.
 use Rattle.std.specs.Option.{option_and_then, option_map}
-use Rattle.std.proofs.Common.{◌≡◌, ◌≢◌, ◌<◌, ◌-◌, ◌∙◌, ◌++◌, ◌==◌, ◌&&◌, ◌||◌, not, inl, inr, ℕ, zero, suc, List, [], ◌∷◌, Some, None, Ok, Err, Bool, true, false, filter, refl, ap, sym, subst, arith, append_assoc, Contains, slice_get, slice_set}
+use Rattle.std.proofs.Common.{◌≡◌, ◌≢◌, ◌<◌, ◌-◌, ◌∙◌, ◌++◌, ◌==◌, ◌&&◌, ◌||◌, not, inl, inr, ℕ, List, [], ◌∷◌, Some, None, Ok, Err, Bool, true, false, filter, refl, ap, sym, subst, arith, append_assoc, Contains, slice_get}
 use Rattle.std.proofs.lemmas.{Bool.{and_from, and_parts, cases_Bool, cases_eq, eq-eqb, or_parts}, List.{append-nil}}
 use Rattle.std.proofs.lemmas.List.Elements.{All-contains, All-weaker}
 use Rattle.rm_base.specs.{Store.{Held}, declared.block.{BlockId.{BlockId}, Change.{Change}, Row.{Row}}}

@@ -1,8 +1,8 @@
 -- The small database is sound, its datafile is there, and its logs have room.
 use Rattle.std.specs.{Global.{Global}, Option.{option_map_or}}
 use Rattle.std.proofs.Common.{◌≡◌, ℕ, zero, suc, ◌+◌, ◌-◌, ◌<◌, ◌≤◌, Bool, true, false, Option, Some, IsSome, Vec, List, [], ◌∷◌, length, map, replicate, slice_get, get_or, All, refl, sym, ap, ◌∙◌, subst, arith}
-use Rattle.std.proofs.lemmas.List.{length-map, Elements.{All-cons, All-head, All-nil, All-push, All-tail}}
-use Rattle.rm_base.specs.{Created.{created_row}, Numbers.{last_scn}, declared.block.Row.{Row}}
+use Rattle.std.proofs.lemmas.List.{length-map, Elements.{All-cons, All-head, All-nil, All-tail}}
+use Rattle.rm_base.specs.{Numbers.{last_scn}, declared.block.Row.{Row}}
 use Rattle.rm_blocks.{specs.File.{File, created, created_rows}, proofs.{Created.{created-all}, Rows.{length-created}}}
 use Rattle.rm_redo.specs.Online.{IsLost, IsThread, fresh_log, fresh_logs, log_where, no_log, thread_records, up_to}
 use Rattle.rm_redo.specs.declared.online.ThreadLog.{ThreadLog}
