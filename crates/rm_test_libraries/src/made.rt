@@ -27,8 +27,8 @@ fn push_base(records: &mut Seq<Record>, current: IncNo) -> Result<(), NoMemory> 
     }))
 }
 
-/// Adds an incarnation, and the mark at which it began.
-pub fn push_incarnation(
+// An incarnation, and the mark at which it began.
+fn push_incarnation(
     records: &mut Seq<Record>,
     inc: IncNo,
     parent: IncNo,

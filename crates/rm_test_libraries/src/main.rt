@@ -1,19 +1,16 @@
 //! Tests of the public calls of the libraries below the machine, each of which prints a line: of rm_base, rm_lang_token, rm_history,
 //! rm_blocks, rm_lanes and rm_track, of rm_catalog, rm_control and rm_redo, of rm_piece, rm_evidence and rm_commit, of rm_merge and rm_backup, and of
-//! rm_retain; then of the language (`lang`), of the live database and its threads (`channel`), and of the planner (`plan`). The long tables and the
-//! worked rows are files of `data/`, of which each line is a case or says what is there.
+//! rm_retain. The long tables and the worked rows are files of `data/`, of which each line is a case or says what is there.
 #![tactic(auto)]
 
 mod catalog;
 mod changes;
-mod channel;
 mod control;
 mod datafiles;
 mod devices;
 mod formats;
 mod keeper;
 mod kernels;
-mod lang;
 mod log_bytes;
 mod logs;
 mod made;
@@ -22,7 +19,6 @@ mod merging;
 mod parents;
 mod piece_bytes;
 mod pieces;
-mod plan;
 mod record;
 mod renewing;
 mod retention;
@@ -199,8 +195,5 @@ fn main(rt: HostRuntime) -> io::Result<()> {
     tell_logs(&rt)?;
     tell_pieces(&rt)?;
     tell_sets(&rt)?;
-    tell_backups(&rt)?;
-    lang::run(&rt)?;
-    channel::run(&rt, &rt)?;
-    plan::run(&rt)
+    tell_backups(&rt)
 }
