@@ -3,7 +3,6 @@ pub mod Backups
 pub mod Deciding
 pub mod Firsts
 pub mod Numbers
-pub mod Orders
 pub mod Parts
 pub mod Planning
 pub mod Restorations

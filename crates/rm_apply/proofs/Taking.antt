@@ -1,10 +1,10 @@
 -- A backup that gave up its rows.
 use Rattle.std.proofs.Common.{◌≡◌, ◌≢◌, ◌<◌, ◌⊎◌, ◌∙◌, inl, inr, ℕ, zero, suc, List, [], ◌∷◌, Option, Some, None, IfSome, Contains, get_or, length, slice_get, slice_set, subst, sym}
 use Rattle.std.proofs.lemmas.{List.{set-get_or, set-set}, Option.{slice_get-get_or}}
-use Rattle.rm_base.{specs.Choice.{IsChoice}, proofs.Members.{behind, first-or-rest, in-front}}
+use Rattle.rm_base.{specs.Choice.{ComesFirst, IsChoice}, proofs.Members.{behind, first-or-rest, in-front}}
 use Rattle.rm_history.specs.declared.tree.Incarnation.{Incarnation}
 use Rattle.rm_piece.specs.declared.piece.Piece.{Piece}
-use Rattle.rm_apply.specs.{Restore.{ComesFirst, MayRestore}, Taking.{Stays}}
+use Rattle.rm_apply.specs.{Restore.{MayRestore, shown}, Taking.{Stays}}
 
 -- an item of a list after one was set is that one, or was there
 set-held : {X : Type 0} (xs : List X) (k : ℕ) (new y : X) → Contains (slice_set xs k new) y → (new ≡ y) ⊎ Contains xs y
@@ -48,4 +48,4 @@ pub others-stay : (xs : List (ℕ × Piece)) (k : ℕ) (d new : ℕ × Piece) �
     → (tree : List Incarnation) (i s f : ℕ) → IfSome (slice_get xs k) (λ x. x.1.file ≢ f) → Stays tree i s xs (slice_set xs k new) f
 others-stay xs k d new inside same tree i s f other =
     let fails : (get_or xs k d).1.file ≢ f = subst (λ (o : Option (ℕ × Piece)). IfSome o (λ x. x.1.file ≢ f)) (slice_get-get_or xs k d inside) other in
-    choice-set (MayRestore tree i s f) xs k d new (λ may. fails may.file) (λ may. fails (sym same ∙ may.file)) ComesFirst
+    choice-set (MayRestore tree i s f) xs k d new (λ may. fails may.file) (λ may. fails (sym same ∙ may.file)) (λ x y. ComesFirst (shown x) (shown y))

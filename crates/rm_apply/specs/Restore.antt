@@ -1,6 +1,6 @@
 -- What a restore puts in place: of each datafile the chosen backup, or else the datafile as it was created.
-use Rattle.std.specs.Prelude.{ℕ, ◌≡◌, ◌<◌, ◌≤◌, ◌⊎◌, IsTrue, Option, Some, None, List, All, map}
-use Rattle.rm_base.specs.{Choice.{IsChoice}, Store.{Held}}
+use Rattle.std.specs.Prelude.{ℕ, ◌≡◌, ◌<◌, ◌≤◌, IsTrue, Option, Some, None, List, All, map}
+use Rattle.rm_base.specs.{Choice.{IsLatest}, Store.{Held}}
 use Rattle.rm_blocks.specs.File.{File, created}
 use Rattle.rm_catalog.specs.declared.record.Record.{Record}
 use Rattle.rm_evidence.specs.{Database.{world_of}, declared.evidence.{Evidence.{Evidence}, InPlace.{InPlace}}}
@@ -18,13 +18,13 @@ pub record MayRestore (tree : List Incarnation) (i s f : ℕ) (x : ℕ × Piece)
   pub within : IsTrue (is_within tree x.1.inc i x.1.high)
   pub checkpoint : x.1.checkpoint ≤ s
 
--- x has a greater checkpoint than y, or the same and no lesser id
-abbrev pub ComesFirst : ℕ × Piece → ℕ × Piece → Type 0
-ComesFirst x y = (y.1.checkpoint < x.1.checkpoint) ⊎ ((y.1.checkpoint ≡ x.1.checkpoint) × (y.0 ≤ x.0))
+-- the id and the checkpoint of a backup
+abbrev pub shown : ℕ × Piece → ℕ × ℕ
+shown x = (x.0, x.1.checkpoint)
 
 -- of these the one of the greatest checkpoint, ties by the greatest id, or none
 abbrev pub IsBackupFor : List Incarnation → List (ℕ × Piece) → ℕ → ℕ → ℕ → Option (ℕ × Piece) → Type 0
-IsBackupFor tree bases i s f o = IsChoice (MayRestore tree i s f) ComesFirst bases o
+IsBackupFor tree bases i s f o = IsLatest shown (MayRestore tree i s f) bases o
 
 -- a datafile as it was created, and the backup from which it is restored, if there is one
 pub record Restoration : Type 0 where

@@ -1,10 +1,10 @@
 //! The backup from which a datafile is restored, and its origin.
 ghost use Rattle.std.specs.{Prelude.{◌≡◌, ◌↔◌, IsTrue}, Option.{option_copied}};
 ghost use Rattle.rm_history.specs.Tree.{IsThere};
-ghost use Rattle.rm_apply.specs.{Restore.{ComesFirst, IsBackupFor, MayRestore, origin_by}, Taking.{base_at}};
+ghost use Rattle.rm_apply.specs.{Restore.{IsBackupFor, MayRestore, origin_by}, Taking.{base_at}};
 
 use crate::origin::Origin;
-use rm_base::{FileNo, IncNo, Scn};
+use rm_base::{FileNo, IncNo, Scn, comes_first};
 use rm_history::Tree;
 use rm_piece::Piece;
 
@@ -17,13 +17,6 @@ fn may_restore(tree: &Tree, i: IncNo, s: Scn, number: FileNo, base: &(u32, Piece
         && base.1.file == number
         && base.1.checkpoint <= s
         && tree.is_within(base.1.inc, i, base.1.high)
-}
-
-// Whether x has a greater checkpoint than y, or the same and no lesser id.
-fn comes_first(x: &(u32, Piece), y: &(u32, Piece)) -> bool
-    ensures { IsTrue result ↔ ComesFirst x.now y.now }
-{
-    y.1.checkpoint < x.1.checkpoint || (y.1.checkpoint == x.1.checkpoint && y.0 <= x.0)
 }
 
 /// The base at this place. None where no place is given, or it is past the end.
@@ -52,7 +45,9 @@ pub(crate) fn choose(
     for (place, base) in bases.iter().enumerate() {
         if may_restore(tree, i, s, number, base) {
             best = match base_at(bases, best) {
-                Some(first) if comes_first(first, base) => best,
+                Some(first)
+                    if comes_first((first.0, first.1.checkpoint), (base.0, base.1.checkpoint)) =>
+                    best,
                 _ => Some(place),
             };
         }

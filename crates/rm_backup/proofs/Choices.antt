@@ -1,36 +1,14 @@
 -- The choice among the records, where one record more is looked at.
 use Rattle.std.specs.{List.{cons_option}, Option.{option_map}}
-use Rattle.std.proofs.Common.{◌≡◌, ◌∙◌, inl, inr, ℕ, List, Option, Some, None, [], ◌∷◌, ◌++◌, refl, ap, sym, subst, arith, ◌+◌, ◌<◌, length, get_or, map, take, All, Contains}
-use Rattle.std.proofs.lemmas.{Bool.{cases_lt}, Grind.{flat_map-append}, List.{append-nil}}
+use Rattle.std.proofs.Common.{◌≡◌, ◌∙◌, inl, inr, ℕ, List, Option, Some, None, [], ◌∷◌, ◌++◌, refl, ap, sym, subst, ◌+◌, ◌<◌, length, get_or, map, take, All, Contains}
+use Rattle.std.proofs.lemmas.{Grind.{flat_map-append}, List.{append-nil}}
 use Rattle.std.proofs.lemmas.List.Elements.{All-contains, Contains-append_cases, Contains-append_left, Contains-append_right, filter_map-append}
-use Rattle.rm_base.{specs.Choice.{IsChoice}, proofs.{Lists.{map_from, map_to, take_more}, Members.{in-front, none-in}}}
+use Rattle.rm_base.{specs.Choice.{ComesFirst, IsLatest}, proofs.{Lists.{map_from, map_to, take_more}, Members.{in-front, none-in}}}
+use Rattle.rm_base.proofs.Choices.{first_itself, first_other_way, first_through}
 use Rattle.rm_catalog.specs.{Keys.{backups_in, part_piece, piece_in}, declared.record.{PieceEntry.{PieceEntry}, Record.{Record}}}
 use Rattle.rm_catalog.specs.declared.record.{Record.TheVariants.{Piece}, SetEntry.{SetEntry}, SetPart.{SetPart}}
 use Rattle.rm_evidence.proofs.Extending.{only-in}
-use Rattle.rm_backup.specs.{Looking.{IsBefore, IsFirstOf, TellsFirst, told}, Parents.{among}, Records.{ComesFirst, pieces}}
-
-through : (x b y : PieceEntry) → ComesFirst x b → ComesFirst b y → ComesFirst x y
-through x b y (inl first) (inl second) = inl (omega (arith, first, second))
-through x b y (inl first) (inr second) = let same = second.0 in inl (omega (arith, first, same))
-through x b y (inr first) (inl second) = let same = first.0 in inl (omega (arith, same, second))
-through x b y (inr first) (inr second) =
-    let one = first.0 in
-    let two = second.0 in
-    let low = first.1 in
-    let more = second.1 in
-    inr (omega (arith, one, two), omega (arith, low, more))
-
-other_way : (b x : PieceEntry) → ¬ ComesFirst b x → ComesFirst x b
-other_way b x behind = elim (cases_lt b.checkpoint x.checkpoint) [
-  | inl less ↦ inl less
-  | inr most ↦ elim (cases_lt x.checkpoint b.checkpoint) [
-    | inl more ↦ absurd (behind (inl more))
-    | inr least ↦ elim (cases_lt b.id x.id) [
-      | inl below ↦ inr (omega (arith, most, least), omega (arith, below))
-      | inr above ↦ absurd (behind (inr (omega (arith, most, least), omega (arith, above))))
-    ]
-  ]
-]
+use Rattle.rm_backup.specs.{Looking.{IsFirstOf, TellsFirst}, Parents.{among}, Records.{pieces, told}}
 
 -- a record more that is a backup, and one that is none
 pub pieces_more : (xs : List Record) (p : PieceEntry) → pieces (xs ++ Piece p ∷ []) ≡ pieces xs ++ p ∷ []
@@ -49,7 +27,7 @@ among_more (Some tag) xs x = filter_map-append piece_in xs (x ∷ [])
 
 module _ (P : PieceEntry → Type 0) where
   -- one that comes before each that passes in two lists is the first of both
-  chosen : (xs ys : List PieceEntry) (x : PieceEntry) → Contains (xs ++ ys) x → P x → ((y : PieceEntry) → Contains xs y → P y → ComesFirst x y) → ((y : PieceEntry) → Contains ys y → P y → ComesFirst x y) → IsChoice P ComesFirst (xs ++ ys) (Some x)
+  chosen : (xs ys : List PieceEntry) (x : PieceEntry) → Contains (xs ++ ys) x → P x → ((y : PieceEntry) → Contains xs y → P y → ComesFirst (told x) (told y)) → ((y : PieceEntry) → Contains ys y → P y → ComesFirst (told x) (told y)) → IsLatest told P (xs ++ ys) (Some x)
   chosen xs ys x held passes left right = record {
     held = held;
     passes = passes;
@@ -59,14 +37,14 @@ module _ (P : PieceEntry → Type 0) where
     ];
   }
 
-  both : (xs ys : List PieceEntry) (o q : Option PieceEntry) (r : Option (ℕ × ℕ)) → IsChoice P ComesFirst xs o → IsChoice P ComesFirst ys q → IsFirstOf (option_map told o) (option_map told q) r → TellsFirst P (xs ++ ys) r
+  both : (xs ys : List PieceEntry) (o q : Option PieceEntry) (r : Option (ℕ × ℕ)) → IsLatest told P xs o → IsLatest told P ys q → IsFirstOf (option_map told o) (option_map told q) r → TellsFirst P (xs ++ ys) r
   both xs ys None None r first second is = (None, (λ y there passes. elim (Contains-append_cases xs ys y there) [ inl front ↦ first y front passes | inr back ↦ second y back passes ]), is)
   both xs ys (Some p) None r first second is = (Some p, chosen xs ys p (Contains-append_left xs ys p first.held) first.passes first.first (λ y back also. absurd (second y back also)), is)
   both xs ys None (Some q) r first second is = (Some q, chosen xs ys q (Contains-append_right xs ys q second.held) second.passes (λ y front also. absurd (first y front also)) second.first, is)
   both xs ys (Some p) (Some q) r first second (inl stays) =
-      (Some p, chosen xs ys p (Contains-append_left xs ys p first.held) first.passes first.first (λ y back also. through p q y stays.0 (second.first y back also)), stays.1)
+      (Some p, chosen xs ys p (Contains-append_left xs ys p first.held) first.passes first.first (λ y back also. first_through (told p) (told q) (told y) stays.0 (second.first y back also)), stays.1)
   both xs ys (Some p) (Some q) r first second (inr goes) =
-      (Some q, chosen xs ys q (Contains-append_right xs ys q second.held) second.passes (λ y front also. through q p y (other_way p q goes.0) (first.first y front also)) second.first, goes.1)
+      (Some q, chosen xs ys q (Contains-append_right xs ys q second.held) second.passes (λ y front also. first_through (told q) (told p) (told y) (first_other_way (told p) (told q) goes.0) (first.first y front also)) second.first, goes.1)
 
   -- the first of two lists
   pub tells_both : (xs ys : List PieceEntry) (a b r : Option (ℕ × ℕ)) → TellsFirst P xs a → TellsFirst P ys b → IsFirstOf a b r → TellsFirst P (xs ++ ys) r
@@ -75,7 +53,7 @@ module _ (P : PieceEntry → Type 0) where
 
   -- of backups that are told alike, one of which passes; and of such that fail
   pub tells_alike : (xs : List PieceEntry) (x : PieceEntry) → Contains xs x → P x → ((y : PieceEntry) → Contains xs y → told y ≡ told x) → TellsFirst P xs (Some (told x))
-  tells_alike xs x held passes alike = (Some x, record { held = held; passes = passes; first = λ y there also. subst (λ (t : ℕ × ℕ). IsBefore (told x) t) (sym (alike y there)) (inr (refl, omega arith)) }, refl)
+  tells_alike xs x held passes alike = (Some x, record { held = held; passes = passes; first = λ y there also. subst (λ (t : ℕ × ℕ). ComesFirst (told x) t) (sym (alike y there)) (first_itself (told x)) }, refl)
 
   pub tells_none : (xs : List PieceEntry) → ((y : PieceEntry) → Contains xs y → ¬ P y) → TellsFirst P xs None
   tells_none xs fail = (None, fail, refl)

@@ -1,8 +1,8 @@
 -- Which record is the parent of a level 1.
 use Rattle.std.specs.{Prelude.{ℕ, ◌≡◌, Bool, true, false, Option, Some, None, List, Contains}, Option.{option_map}}
-use Rattle.rm_base.specs.{Choice.{IsChoice}, declared.kinds.Kind.{Kind, TheVariants.{Full, Level0, Level1, Place}}}
+use Rattle.rm_base.specs.{Choice.{IsLatest}, declared.kinds.Kind.{Kind, TheVariants.{Full, Level0, Level1, Place}}}
 use Rattle.rm_catalog.specs.{Keys.{backups}, declared.record.{PieceEntry.{PieceEntry}, Record.{Record}}}
-use Rattle.rm_backup.specs.Records.{ComesFirst, IsOnPath, pieces}
+use Rattle.rm_backup.specs.Records.{IsOnPath, pieces, told}
 
 -- level 0, or level 1 where it need not be cumulative
 abbrev pub IsLevel : Bool → Kind → Type 0
@@ -33,7 +33,7 @@ among (Some tag) rs = pieces rs
 
 -- of these the one of the greatest checkpoint, ties by the greatest id
 abbrev pub IsLast : List Record → ℕ → Bool → Option (List ℕ) → Option PieceEntry → Type 0
-IsLast rs f cumulative tag o = IsChoice (MayBeParent rs f cumulative tag) ComesFirst (among tag rs) o
+IsLast rs f cumulative tag o = IsLatest told (MayBeParent rs f cumulative tag) (among tag rs) o
 
 -- with a tag: some level 0 image copy that has it may be a parent
 abbrev pub HasCopy : List Record → ℕ → Option (List ℕ) → Type 0

@@ -1,5 +1,5 @@
 -- The records of a datafile's backups, and which of them hold on the current path.
-use Rattle.std.specs.{Prelude.{ℕ, ◌≡◌, ◌<◌, ◌≤◌, ◌⊎◌, IsTrue, Option, List, option_and_then}, List.{filter_map}}
+use Rattle.std.specs.{Prelude.{ℕ, ◌≡◌, IsTrue, Option, List, option_and_then}, List.{filter_map}}
 use Rattle.rm_base.specs.declared.kinds.Status.TheVariants.{Available}
 use Rattle.rm_catalog.specs.{Keys.{at, piece_in, place}, Trees.{nodes}, declared.record.{PieceEntry.{PieceEntry}, Record.{Record}}}
 use Rattle.rm_history.specs.Tree.{is_within}
@@ -20,6 +20,6 @@ pub record IsOnPath (rs : List Record) (f : ℕ) (p : PieceEntry) : Type 0 where
   pub status : p.status ≡ Available
   pub within : IsTrue (is_within (nodes rs) p.inc (current_in rs) p.high)
 
--- p has a greater checkpoint than q, or the same and no lesser id
-abbrev pub ComesFirst : PieceEntry → PieceEntry → Type 0
-ComesFirst p q = (q.checkpoint < p.checkpoint) ⊎ ((q.checkpoint ≡ p.checkpoint) × (q.id ≤ p.id))
+-- the id and the checkpoint of a backup
+abbrev pub told : PieceEntry → ℕ × ℕ
+told p = (p.id, p.checkpoint)

@@ -1,9 +1,9 @@
 //! The records of a datafile's backups.
 ghost use Rattle.std.specs.{Prelude.{◌≡◌, ◌↔◌, IsTrue}, Option.{option_copied}};
 ghost use Rattle.rm_catalog.specs.Rules.{HasDatabase};
-ghost use Rattle.rm_backup.specs.{Looking.{IsBefore, IsFirstOf}, Records.{IsOnPath, piece as piece_of}};
+ghost use Rattle.rm_backup.specs.{Looking.{IsFirstOf}, Records.{IsOnPath, piece as piece_of}};
 
-use rm_base::{FileNo, Scn, Status};
+use rm_base::{FileNo, Scn, Status, comes_first};
 use rm_catalog::{Catalog, Key, PieceEntry, Record};
 use rm_evidence::current_of;
 
@@ -27,13 +27,6 @@ pub fn piece(catalog: &Catalog, id: u32) -> Option<&PieceEntry>
         Some(Record::Piece(entry)) => Some(entry),
         _ => None,
     }
-}
-
-// Whether x has a greater checkpoint than y, or the same and no lesser id.
-fn comes_first(x: (u32, Scn), y: (u32, Scn)) -> bool
-    ensures { IsTrue result ↔ IsBefore x y }
-{
-    y.1 < x.1 || (y.1 == x.1 && y.0 <= x.0)
 }
 
 /// The first of what is told of two lists of backups, by id and checkpoint.

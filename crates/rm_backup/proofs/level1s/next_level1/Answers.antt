@@ -1,8 +1,9 @@
 use Rattle.std.specs.Option.{option_copied}
-use Rattle.std.proofs.Common.{◌≡◌, ◌+◌, inl, inr, ℕ, List, Some, true, false, refl, take, take_all, sym, subst, arith}
+use Rattle.std.proofs.Common.{◌≡◌, ◌+◌, ◌≤◌, inl, inr, ℕ, List, Some, true, false, refl, take, take_all, sym, subst, arith}
 use Rattle.std.proofs.lemmas.Bool.{cases_lt}
 use Rattle.rm_piece.specs.declared.piece.Piece.{Piece}
-use Rattle.rm_base.{specs.Choice.{IsChoice}, proofs.{Choices.{choice_passed, choice_only, choice_taken, choice_stays}, Lists.{take_more}}}
+use Rattle.rm_base.specs.Choice.{IsChoice}
+use Rattle.rm_base.proofs.{Choices.{choice_passed, choice_only, choice_taken, choice_stays, leads_other_way, leads_through}, Lists.{take_more}}
 use Rattle.rm_backup.specs.Level1s.{MergesFirst, MayBeNext}
 use Rattle.rm_backup.proofs.level1s.next_level1.Goals.{then-may_be_next+in-Some, then-may_be_next+in_default, in_default-via-in-Some+else-merges_first, in_default-via-in_default, else-may_be_next}
 use Rattle.rm_backup.proofs.level1s.next_level1.Goals as goal
@@ -11,27 +12,13 @@ itself : (x : ℕ × Piece) → MergesFirst x x
 itself x = inr (refl, omega arith)
 
 through : (x b y : ℕ × Piece) → MergesFirst x b → MergesFirst b y → MergesFirst x y
-through x b y (inl first) (inl second) = inl (omega (arith, first, second))
-through x b y (inl first) (inr second) = let same = second.0 in inl (omega (arith, first, same))
-through x b y (inr first) (inl second) = let same = first.0 in inl (omega (arith, same, second))
-through x b y (inr first) (inr second) =
-    let one = first.0 in
-    let two = second.0 in
-    let low = first.1 in
-    let more = second.1 in
-    inr (omega (arith, one, two), omega (arith, low, more))
+through x b y = leads_through (λ m n. m ≤ n) (λ m n k first second. omega (arith, first, second)) (x.0, x.1.checkpoint) (b.0, b.1.checkpoint) (y.0, y.1.checkpoint)
 
 other_way : (b x : ℕ × Piece) → ¬ MergesFirst b x → MergesFirst x b
-other_way b x behind = elim (cases_lt b.1.checkpoint x.1.checkpoint) [
-  | inl less ↦ inl less
-  | inr most ↦ elim (cases_lt x.1.checkpoint b.1.checkpoint) [
-    | inl more ↦ absurd (behind (inl more))
-    | inr least ↦ elim (cases_lt x.0 b.0) [
-      | inl below ↦ inr (omega (arith, most, least), omega (arith, below))
-      | inr above ↦ absurd (behind (inr (omega (arith, most, least), omega (arith, above))))
-    ]
-  ]
-]
+other_way b x = leads_other_way (λ m n. m ≤ n) (λ m n above. elim (cases_lt m n) [
+  | inl below ↦ absurd (above (omega (arith, below)))
+  | inr more ↦ omega (arith, more)
+]) (b.0, b.1.checkpoint) (x.0, x.1.checkpoint)
 
 pub loop-level1-preserved : goal.loop-level1-preserved
 loop-level1-preserved c =
