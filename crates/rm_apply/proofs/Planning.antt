@@ -2,7 +2,7 @@
 use Rattle.std.specs.Prelude.{Result, Ok, Err, Some}
 use Rattle.std.proofs.Common.{◌≡◌, ◌∙◌, ◌++◌, ◌∷◌, [], ℕ, suc, List, All, append_assoc, length, map, slice_get, refl, sym, ap, subst, arith}
 use Rattle.std.proofs.lemmas.List.{append-nil, map-append, nil_from_length}
-use Rattle.std.proofs.lemmas.List.Elements.{All-cons, All-head, All-nil, All-push, All-same, All-tail}
+use Rattle.std.proofs.lemmas.{List.Elements.{All-cons, All-head, All-nil, All-push, All-same, All-tail}, Slice.Zip.{AllZip-long}}
 use Rattle.rm_history.specs.{Evidence.{Evidence}, declared.world.World.{World}}
 use Rattle.rm_plan.specs.{Plan.{IsFileTarget}, declared.plan.PlanFault.{PlanFault}}
 use Rattle.rm_apply.specs.{Applying.{AreFirst, ArePlanned, AreTried, IsPlanned, IsTried, TriedAt}, Files.{AreExactly, IsTargetFile}}
@@ -69,12 +69,9 @@ module _ (w : World) (e : Evidence) (i s : ℕ) where
 
   -- none is left
   pub none-left : (whole : List ℕ) (plans : List Plan) (rs : List (Result Plan PlanFault)) → AreLeft whole plans rs → length rs ≡ 0 → map of_plan plans ≡ whole
-  none-left whole plans (r ∷ rs) is none = absurd (omega (arith, none))
-  none-left whole plans [] is none = by is.left is.tried is.numbers
-    where
-      by : (left : List ℕ) → AreTried w e i s left [] → map of_plan plans ++ left ≡ whole → map of_plan plans ≡ whole
-      by [] tried numbers = sym (append-nil (map of_plan plans)) ∙ numbers
-      by (n ∷ ns) tried numbers = absurd tried
+  none-left whole plans rs is none =
+      let gone : is.left ≡ [] = nil_from_length is.left (omega (arith, none, AllZip-long (IsTried w e i s) is.left rs is.tried)) in
+      sym (append-nil (map of_plan plans)) ∙ ap (λ (ns : List ℕ). map of_plan plans ++ ns) (sym gone) ∙ is.numbers
 
   -- the plans of the first parts, and the datafiles behind them
   pub record IsPartWay (all left : List TargetFile) (plans : List Plan) : Type 0 where

@@ -1,5 +1,5 @@
 -- What is told of a datafile before it is applied, and the datafile that it makes.
-use Rattle.std.specs.Prelude.{ℕ, ◌≡◌, ◌++◌, List, [], ◌∷◌, All, Result, IfOk, IfErr, Some, length, map, slice_get}
+use Rattle.std.specs.{Prelude.{ℕ, ◌≡◌, ◌++◌, List, All, Result, IfOk, IfErr, Some, length, map, slice_get}, List.{AllZip}}
 use Rattle.rm_blocks.specs.File.{File, IsInOrder}
 use Rattle.rm_channel.specs.Applied.{row_of}
 use Rattle.rm_history.specs.{World.{blocks_of}, Evidence.{Evidence}, declared.world.World.{World}}
@@ -33,10 +33,7 @@ TriedAt w e i s ts k r = (t : TargetFile) → slice_get ts k ≡ Some t → IsTr
 
 -- of each of these, in order
 abbrev pub AreTried : World → Evidence → ℕ → ℕ → List ℕ → List (Result Plan PlanFault) → Type 0
-AreTried w e i s [] [] = Unit {0}
-AreTried w e i s [] (r ∷ rs) = ⊥
-AreTried w e i s (n ∷ ns) [] = ⊥
-AreTried w e i s (n ∷ ns) (r ∷ rs) = IsTried w e i s n r × AreTried w e i s ns rs
+AreTried w e i s ns rs = AllZip (IsTried w e i s) ns rs
 
 -- with more behind them, these are exactly the datafiles that exist at (i, s)
 abbrev pub AreFirst : World → ℕ → ℕ → List ℕ → Type 0

@@ -1,5 +1,5 @@
 -- Items of lists that are filtered, mapped, searched and read from the front.
-use Rattle.std.specs.List.{list_any}
+use Rattle.std.specs.List.{AllZip, list_any}
 use Rattle.std.proofs.Common.{◌≡◌, ◌∙◌, ◌⊎◌, ◌<◌, ◌+◌, inl, inr, ℕ, suc, List, [], ◌∷◌, ◌++◌, Bool, true, false, cond, Some, None, refl, ap, sym, subst, arith, filter, map, find, length, take, get_or, Contains}
 use Rattle.std.proofs.lemmas.{Bool.{cases_Bool}, List.Elements.{All-contains, All-contains_itself, All-filter, filter_passes}}
 use Rattle.std.proofs.{lemmas.List.Folds.{Any-from_list_any, list_any-from_Any}, Math.Seq.{take-suc}}
@@ -155,3 +155,10 @@ module _ {X : Type 0} where
   take_more xs i x inside is =
       let one : i + 1 ≡ suc i = omega arith in
       ap (λ (n : ℕ). take n xs) one ∙ take-suc xs i x inside ∙ ap (λ y. take i xs ++ y ∷ []) (sym is)
+
+-- lists that are related place by place join
+pub all_zip_join : {A B : Type 0} (R : A → B → Type 0) (xs ys : List A) (us vs : List B) → AllZip R xs us → AllZip R ys vs → AllZip R (xs ++ ys) (us ++ vs)
+all_zip_join R [] ys [] vs first second = second
+all_zip_join R [] ys (u ∷ us) vs first second = absurd first
+all_zip_join R (x ∷ xs) ys [] vs first second = absurd first
+all_zip_join R (x ∷ xs) ys (u ∷ us) vs first second = (first.0, all_zip_join R xs ys us vs first.1 second)

@@ -1,8 +1,9 @@
 -- What is told of records, one after the other.
 use Rattle.std.specs.Prelude.{Ok, Err, IfSome}
-use Rattle.std.proofs.Common.{◌≡◌, ◌∙◌, ◌<◌, ◌≤◌, ◌+◌, ℕ, suc, Option, Some, None, List, [], ◌∷◌, ◌++◌, zero, append_assoc, drop, drop-cons, length-append, get_or, map, slice_get, take, refl, ap, sym, subst, arith, length}
-use Rattle.std.proofs.lemmas.List.{append-nil, get_or-map, length-map, map-append, take_more}
-use Rattle.rm_base.specs.Store.{Held}
+use Rattle.std.proofs.Common.{◌≡◌, ◌∙◌, ◌<◌, ◌≤◌, ◌+◌, ◌-◌, ℕ, suc, Option, Some, None, List, [], ◌∷◌, ◌++◌, zero, append_assoc, drop, drop-cons, length-append, get_or, map, slice_get, take, refl, ap, sym, subst, arith, length}
+use Rattle.std.proofs.lemmas.List.{append-nil, get_or-map, length-drop, length-map, map-append, take_more}
+use Rattle.std.proofs.lemmas.Slice.Zip.{AllZip-long, all_zipped_more}
+use Rattle.rm_base.{specs.Store.{Held}, proofs.Lists.{all_zip_join}}
 use Rattle.rm_catalog.specs.declared.record.Record.{Record}
 use Rattle.rm_catalog.specs.declared.record.Record.TheVariants as kind
 use Rattle.rm_evidence.specs.{Database.{Database}, Objects.{IsLogObject, IsPieceObject, IsSetObject}, Seen.{IsSeen}, Taking.{Adds, IsTold}}
@@ -74,20 +75,7 @@ are-told o base (r ∷ rs) [] ts under tells = absurd tells
 are-told o base (r ∷ rs) (s ∷ ss) [] under tells = absurd tells
 are-told o base (r ∷ rs) (s ∷ ss) (t ∷ ts) under tells = (told-seen o base r s t under.0 tells.0, are-told o base rs ss ts under.1 tells.1)
 
--- runs of records join
-pub told-join : (o : Option Held) (base : Database) (rs qs : List Record) (ts us : List Told) → AreTold o base rs ts → AreTold o base qs us → AreTold o base (rs ++ qs) (ts ++ us)
-told-join o base [] qs [] us first second = second
-told-join o base [] qs (t ∷ ts) us first second = absurd first
-told-join o base (r ∷ rs) qs [] us first second = absurd first
-told-join o base (r ∷ rs) qs (t ∷ ts) us first second = (first.0, told-join o base rs qs ts us first.1 second)
-
 -- one record more
-stand-more : (o : Option Held) (rs : List Record) (ss : List (Option (List ℕ))) (r : Record) (s : Option (List ℕ)) → StandUnder o rs ss → IfSome o (λ h. StandsUnder h r s) → StandUnder o (rs ++ r ∷ []) (ss ++ s ∷ [])
-stand-more o [] [] r s all one = (one, tt)
-stand-more o [] (x ∷ xs) r s all one = absurd all
-stand-more o (y ∷ ys) [] r s all one = absurd all
-stand-more o (y ∷ ys) (x ∷ xs) r s all one = (all.0, stand-more o ys xs r s all.1 one)
-
 tell-more : (base : Database) (rs : List Record) (ss : List (Option (List ℕ))) (ts : List Told) (r : Record) (s : Option (List ℕ)) (t : Told) → TellAll base rs ss ts → Tells base r s t → TellAll base (rs ++ r ∷ []) (ss ++ s ∷ []) (ts ++ t ∷ [])
 tell-more base [] [] [] r s t all one = (one, tt)
 tell-more base [] [] (z ∷ zs) r s t all one = absurd all
@@ -126,7 +114,8 @@ pub stand-next : {X : Type 0} (see : X → Record) (xs : List X) (o p : Option H
 stand-next {X} see xs o p i x s ss ss' same inside is longer before after =
     let more : map see (take (i + 1) xs) ≡ map see (take i xs) ++ see x ∷ [] =
     ap (map see) (take_more xs i x inside ∙ ap (λ (y : X). take i xs ++ y ∷ []) (sym is)) ∙ map-append see (take i xs) (x ∷ []) in
-    coe 1 0 (j. StandUnder o (more j) (longer j)) (stand-more o (map see (take i xs)) ss (see x) s before (subst (λ (q : Option Held). IfSome q (λ h. StandsUnder h (see x) s)) same after))
+    coe 1 0 (j. StandUnder o (more j) (longer j))
+    (all_zipped_more (λ r s. IfSome o (λ h. StandsUnder h r s)) (map see (take i xs)) ss (see x) s before (subst (λ (q : Option Held). IfSome q (λ h. StandsUnder h (see x) s)) same after))
 
 -- the records are read from these items
 module _ {X : Type 0} (see : X → Record) (xs : List X) (base : Database) where
@@ -152,7 +141,7 @@ module _ {X : Type 0} (see : X → Record) (xs : List X) (base : Database) where
   -- a part more is told
   pub before-part : (o p : Option Held) (part rest : List X) (ts us all : List Told) → p ≡ o → all ≡ ts ++ us → IsToldBefore o (part ++ rest) ts → AreTold p base (map see part) us → IsToldBefore o rest all
   before-part o p part rest ts us all same longer was more vs after =
-      let joined = told-join o base (map see part) (map see rest) us vs (subst (λ (q : Option Held). AreTold q base (map see part) us) same more) after in
+      let joined = all_zip_join (λ r t. IsSeen o (λ h. Tells base r (stands_in h r) t)) (map see part) (map see rest) us vs (subst (λ (q : Option Held). AreTold q base (map see part) us) same more) after in
       let behind : all ++ vs ≡ ts ++ (us ++ vs) = ap (λ (zs : List Told). zs ++ vs) longer ∙ append_assoc ts us vs in
       coe 1 0 (i. AreTold o base (map see xs) (behind i)) (was (us ++ vs) (coe 1 0 (i. AreTold o base (map-append see part rest i) (us ++ vs)) joined))
 
@@ -166,14 +155,13 @@ module _ {X : Type 0} (see : X → Record) (xs : List X) (base : Database) where
     pub told : IsSeen o (λ h. Tells base (see x) (stands_in h (see x)) t)
     pub rest : AreTold o base (drop (i + 1) (map see xs)) ts
 
+  as-many : (o : Option Held) (i : ℕ) (ts : List Told) → AreTold o base (drop i (map see xs)) ts → length ts ≡ length xs - i
+  as-many o i ts are =
+      AllZip-long (λ r t. IsSeen o (λ h. Tells base r (stands_in h r) t)) (drop i (map see xs)) ts are
+      ∙ length-drop i (map see xs) ∙ ap (λ (n : ℕ). n - i) (length-map xs see)
+
   pub told-inside : (o : Option Held) (i : ℕ) (t : Told) (ts : List Told) → AreTold o base (drop i (map see xs)) (t ∷ ts) → i < length xs
-  told-inside o i t ts are = step xs i are
-    where
-      step : (ys : List X) (k : ℕ) → AreTold o base (drop k (map see ys)) (t ∷ ts) → k < length ys
-      step [] zero is = absurd is
-      step [] (suc k) is = absurd is
-      step (y ∷ ys) zero is = omega arith
-      step (y ∷ ys) (suc k) is = let less = step ys k is in omega (arith, less)
+  told-inside o i t ts are = omega (arith, as-many o i (t ∷ ts) are)
 
   pub told-next : (o : Option Held) (i : ℕ) (x : X) (t : Told) (ts : List Told) → x ≡ get_or xs i x → AreTold o base (drop i (map see xs)) (t ∷ ts) → IsNext o i x t ts
   told-next o i x t ts is are =
@@ -186,10 +174,4 @@ module _ {X : Type 0} (see : X → Record) (xs : List X) (base : Database) where
       record { told = all.0; rest = all.1 }
 
   pub none-left : (o : Option Held) (i : ℕ) (ts : List Told) → length ts ≡ 0 → AreTold o base (drop i (map see xs)) ts → length xs ≤ i
-  none-left o i (t ∷ ts) none are = absurd (omega arith)
-  none-left o i [] none are = step xs i are
-    where
-      step : (ys : List X) (k : ℕ) → AreTold o base (drop k (map see ys)) [] → length ys ≤ k
-      step [] k is = omega arith
-      step (y ∷ ys) zero is = absurd is
-      step (y ∷ ys) (suc k) is = let less = step ys k is in omega (arith, less)
+  none-left o i ts none are = omega (arith, as-many o i ts are, none)

@@ -1,5 +1,5 @@
 -- Which bytes are the object of a record.
-use Rattle.std.specs.Prelude.{◌≡◌, ℕ, ◌-◌, Bool, List, [], ◌∷◌, length, slice_get, All, IsSomeAnd}
+use Rattle.std.specs.{Prelude.{◌≡◌, ℕ, ◌-◌, Bool, List, length, slice_get, All, IsSomeAnd}, List.{AllZip}}
 use Rattle.sha2.specs.Sha256.{sha256}
 use Rattle.rm_base.specs.declared.kinds.Status.TheVariants.{Available}
 use Rattle.rm_catalog.specs.declared.record.{LogEntry.{LogEntry}, PieceEntry.{PieceEntry}, SetEntry.{SetEntry}, SetPart.{SetPart}}
@@ -79,10 +79,7 @@ pub record HasPartFields (p : SetPart) (m : SetFile) : Type 0 where
 
 -- one member for each part, in order
 abbrev pub AreParts : List SetPart → List SetFile → Type 0
-AreParts [] [] = Unit {0}
-AreParts [] (m ∷ ms) = ⊥
-AreParts (p ∷ ps) [] = ⊥
-AreParts (p ∷ ps) (m ∷ ms) = HasPartFields p m × AreParts ps ms
+AreParts ps ms = AllZip HasPartFields ps ms
 
 -- the member is of this datafile, as it was created
 pub record IsAsCreated (m : SetFile) (d : Datafile) : Type 0 where

@@ -1,6 +1,6 @@
 -- What stands under the names of records tells of them, and what that adds to the evidence.
 use Rattle.std.specs.Prelude.{◌≡◌, ◌≢◌, ℕ, List, [], ◌∷◌, ◌++◌, Option, Some, Ok, Err, IfSome, map, option_and_then, slice_get}
-use Rattle.std.specs.Option.{option_map_or}
+use Rattle.std.specs.{List.{AllZip}, Option.{option_map_or}}
 use Rattle.rm_base.specs.{Store.{Held}, declared.kinds.Status.TheVariants.{Available}}
 use Rattle.rm_catalog.specs.declared.record.Record.{Record}
 use Rattle.rm_catalog.specs.declared.record.Record.TheVariants as kind
@@ -39,10 +39,7 @@ TellsAt {X} base see xs ss k t = (x : X) (s : Option (List ℕ)) → slice_get x
 
 -- one after the other
 abbrev pub StandUnder : Option Held → List Record → List (Option (List ℕ)) → Type 0
-StandUnder o [] [] = Unit {0}
-StandUnder o [] (s ∷ ss) = ⊥
-StandUnder o (r ∷ rs) [] = ⊥
-StandUnder o (r ∷ rs) (s ∷ ss) = IfSome o (λ h. StandsUnder h r s) × StandUnder o rs ss
+StandUnder o rs ss = AllZip (λ r s. IfSome o (λ h. StandsUnder h r s)) rs ss
 
 abbrev pub TellAll : Database → List Record → List (Option (List ℕ)) → List Told → Type 0
 TellAll base [] [] [] = Unit {0}
@@ -54,10 +51,7 @@ TellAll base (r ∷ rs) (s ∷ ss) (t ∷ ts) = Tells base r s t × TellAll base
 
 -- each of these records tells this, by what is seen of the store
 abbrev pub AreTold : Option Held → Database → List Record → List Told → Type 0
-AreTold o base [] [] = Unit {0}
-AreTold o base [] (t ∷ ts) = ⊥
-AreTold o base (r ∷ rs) [] = ⊥
-AreTold o base (r ∷ rs) (t ∷ ts) = IsSeen o (λ h. Tells base r (stands_in h r) t) × AreTold o base rs ts
+AreTold o base rs ts = AllZip (λ r t. IsSeen o (λ h. Tells base r (stands_in h r) t)) rs ts
 
 -- the evidence with the artefact of this id, or with why it is skipped
 abbrev pub with_artefact : Evidence → ℕ → Told → Evidence
