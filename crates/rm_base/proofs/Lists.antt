@@ -1,6 +1,6 @@
 -- Items of lists that are filtered, mapped, searched and read from the front.
 use Rattle.std.specs.List.{AllZip, list_any}
-use Rattle.std.proofs.Common.{◌≡◌, ◌∙◌, ◌⊎◌, ◌<◌, ◌+◌, inl, inr, ℕ, suc, List, [], ◌∷◌, ◌++◌, Bool, true, false, cond, Some, None, refl, ap, sym, subst, arith, filter, map, find, length, take, get_or, Contains}
+use Rattle.std.proofs.Common.{◌≡◌, ◌∙◌, ◌⊎◌, ◌<◌, ◌+◌, inl, inr, ℕ, suc, List, [], ◌∷◌, ◌++◌, Bool, true, false, cond, Some, None, refl, ap, sym, subst, arith, filter, map, find, length, take, get_or, All, Contains}
 use Rattle.std.proofs.lemmas.{Bool.{cases_Bool}, List.Elements.{All-contains, All-contains_itself, All-filter, filter_passes}}
 use Rattle.std.proofs.{lemmas.List.Folds.{Any-from_list_any, list_any-from_Any}, Math.Seq.{take-suc}}
 use Rattle.rm_base.proofs.Members.{in-front, behind, none-in, first-or-rest}
@@ -36,6 +36,15 @@ pub filter_filter : {X : Type 0} (p q : X → Bool) (xs : List X) → ((x : X) �
 filter_filter p q [] keeps = refl
 filter_filter p q (x ∷ xs) keeps =
     skip-first p q x xs (filter q xs) (p x) (q x) refl refl (keeps x (in-front x xs)) (filter_filter p q xs (λ y held. keeps y (behind x xs y held)))
+
+-- a filter whose test each item passes keeps all, and one whose test none passes keeps none
+pub filter_all : {X : Type 0} (p : X → Bool) (xs : List X) → All (λ x. p x ≡ true) xs → filter p xs ≡ xs
+filter_all p [] all = refl
+filter_all p (x ∷ xs) all = rw (all 0 x (omega arith)) (ap (λ ys. x ∷ ys) (filter_all p xs (λ k d lt. all (suc k) d (omega arith))))
+
+pub filter_none : {X : Type 0} (p : X → Bool) (xs : List X) → All (λ x. p x ≡ false) xs → filter p xs ≡ []
+filter_none p [] all = refl
+filter_none p (x ∷ xs) all = rw (all 0 x (omega arith)) (filter_none p xs (λ k d lt. all (suc k) d (omega arith)))
 
 -- some item passes, or none does
 pub find_passing : {X : Type 0} (p : X → Bool) (xs : List X) → ((x : X) × Contains xs x × (p x ≡ true)) ⊎ ((x : X) → Contains xs x → ¬ (p x ≡ true))

@@ -1,25 +1,11 @@
 -- Records below and above a place, and edits at different places.
 use Rattle.std.specs.List.{filter}
-use Rattle.std.proofs.Common.{◌≡◌, ℕ, suc, ◌<◌, ◌≤◌, Bool, true, false, ltb, cond, List, [], ◌∷◌, ◌++◌, get_or, refl, ap, sym, subst, ◌∙◌, arith, inl, inr, All}
+use Rattle.std.proofs.Common.{◌≡◌, ℕ, ◌<◌, ◌≤◌, Bool, true, false, ltb, cond, List, [], ◌∷◌, ◌++◌, get_or, refl, ap, sym, subst, ◌∙◌, arith, inl, inr, All}
 use Rattle.std.proofs.lemmas.{Bool.{lt-ltb, le-ltb, cases_lt}, List.{append-nil, append_assoc}}
 use Rattle.std.proofs.lemmas.List.Elements.{All-nil, All-cons, All-append, filter-append, filter_agree}
+use Rattle.rm_base.proofs.Lists.{filter_all, filter_none}
 use Rattle.rm_catalog.specs.{Keys.{place_of, place_of_key}, Edits.{below, above, place_of_edit, after_edit, after_edits}}
 use Rattle.rm_catalog.specs.declared.record.{Record.{Record}, Edit.{Edit, TheVariants.{Put, Drop}}}
-
--- a filter whose test each element passes keeps all, and one whose test none passes keeps none
-pub filter_all : {X : Type 0} (p : X → Bool) (xs : List X) → All (λ x. p x ≡ true) xs → filter p xs ≡ xs
-filter_all p [] all = refl
-filter_all {X} p (x ∷ xs) all =
-    let head : p x ≡ true = all 0 x (omega arith) in
-    let tail : All (λ (y : X). p y ≡ true) xs = λ k d lt. all (suc k) d (omega arith) in
-    ap (λ (b : Bool). cond b (x ∷ filter p xs) (filter p xs)) head ∙ ap (λ (ys : List X). x ∷ ys) (filter_all p xs tail)
-
-pub filter_none : {X : Type 0} (p : X → Bool) (xs : List X) → All (λ x. p x ≡ false) xs → filter p xs ≡ []
-filter_none p [] all = refl
-filter_none {X} p (x ∷ xs) all =
-    let head : p x ≡ false = all 0 x (omega arith) in
-    let tail : All (λ (y : X). p y ≡ false) xs = λ k d lt. all (suc k) d (omega arith) in
-    ap (λ (b : Bool). cond b (x ∷ filter p xs) (filter p xs)) head ∙ filter_none p xs tail
 
 -- what passes p and then q is what passes both
 both : {X : Type 0} (p q : X → Bool) (xs : List X) → filter q (filter p xs) ≡ filter (λ x. cond (p x) (q x) false) xs

@@ -3,8 +3,9 @@ use Rattle.std.specs.{List.{filter}, Prelude.{not, ◌&&◌}, Ordering.{is_lt, n
 use Rattle.std.specs.declared.cmp.Ordering.TheVariants.{Less, Equal, Greater}
 use Rattle.std.proofs.Common.{◌≡◌, ℕ, suc, ◌<◌, ◌≤◌, Bool, true, false, eqb, cond, List, [], ◌∷◌, ◌++◌, refl, ap, sym, subst, ◌∙◌, arith, eq-eqb, ◌⊎◌, inl, inr, All}
 use Rattle.std.proofs.lemmas.{Bool.{cases_eq, cases_lt}, List.Elements.{All-nil, All-cons, filter-append}}
+use Rattle.rm_base.proofs.Lists.{filter_none}
 use Rattle.rm_catalog.specs.{Edits.{place_of_edit, after_edit, after_edits}, declared.record.{Record.{Record}, Edit.{Edit}}}
-use Rattle.rm_catalog.proofs.{Found.{differ}, Filters.{after_swap, filter_none}}
+use Rattle.rm_catalog.proofs.{Found.{differ}, Filters.{after_swap}}
 
 -- whether an edit is of this place
 abbrev pub is_at : ℕ → Edit → Bool

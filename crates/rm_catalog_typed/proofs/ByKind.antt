@@ -3,9 +3,10 @@ use Rattle.std.specs.{Prelude.{IsSome}, List.{filter, filter_map, cons_option}, 
 use Rattle.std.proofs.Common.{◌≡◌, ◌∙◌, ℕ, zero, suc, ◌+◌, ◌<◌, ◌≤◌, ◌==◌, inl, inr, Bool, true, false, cond, List, [], ◌∷◌, ◌++◌, Option, Some, None, refl, ap, sym, subst, arith, eq-eqb, map, length, get_or, All, AllPairs, Contains}
 use Rattle.std.proofs.lemmas.{Bool.{cases_eq, cond-false, cond-true, false≢true, ne_eqb}, Option.{cond_some, none-some, same_Some}}
 use Rattle.std.proofs.lemmas.List.Elements.{Contains-get_or}
+use Rattle.rm_base.proofs.Lists.{filter_none}
 use Rattle.rm_catalog.specs.Keys.{IsThere, at, base_in, datafile_in, head_in, incarnation_in, key_of, log_in, mark_in, part_in, piece_in, place, place_of, set_in, switch_in}
-use Rattle.rm_catalog.{specs.{Rules.{IsCatalog}, Trees.{node, nodes}, declared.record.Record.{Record}}, proofs.Filters.{filter_none}}
-use Rattle.rm_catalog.proofs.{Told.{found_is}, Unique.{Rises, all_above}, Numbering.{number_is, rises_catalog}, Trees.{nodes_are}}
+use Rattle.rm_catalog.{specs.{Rules.{IsCatalog}, Trees.{node, nodes}, declared.record.Record.{Record}}, proofs.Told.{found_is}}
+use Rattle.rm_catalog.proofs.{Unique.{Rises, all_above}, Numbering.{number_is, rises_catalog}, Trees.{nodes_are}}
 use Rattle.rm_catalog.proofs.Telling.{told-ascends, told-record}
 use Rattle.rm_catalog.specs.declared.record.Record.TheVariants as kind
 use Rattle.rm_catalog_typed.specs.{Ledger.{numbered, incarnation_record, datafile_record}, Kinds.{by_kind}}

@@ -3,11 +3,10 @@ use Rattle.std.specs.{Prelude.{◌&&◌, count_by}, List.{filter, filter_map}}
 use Rattle.std.proofs.Common.{◌≡◌, ◌≢◌, ◌∙◌, ℕ, zero, suc, ◌+◌, ◌-◌, ◌<◌, ◌≤◌, inl, inr, Bool, true, false, cond, ltb, List, [], ◌∷◌, ◌++◌, length, get_or, map, Option, Some, None, refl, ap, sym, subst, arith, All, Contains}
 use Rattle.std.proofs.lemmas.{Bool.{lt-ltb, Decides.{nat_tests}}, List.{append-nil, append_assoc}}
 use Rattle.std.proofs.lemmas.List.{Elements.{All-map, All-nil, All-push, Contains-get_or, filter-append}, Sums.{sum_by-cons}}
-use Rattle.rm_base.proofs.{Lists.{filter_from}, Members.{none-in}}
+use Rattle.rm_base.proofs.{Lists.{filter_from, filter_all, filter_none}, Members.{none-in}}
 use Rattle.rm_catalog.specs.{Keys.{base, base_in, head_in, part_in, place_of, set_in, switch_in}, Rules.{IsCatalog, is_lasting}}
 use Rattle.rm_catalog.specs.declared.record.{BaseEntry.{BaseEntry}, HeadEntry.{HeadEntry}, PartEntry.{PartEntry}, Record.{Record}}
-use Rattle.rm_catalog.proofs.{Filters.{filter_all, filter_none}, ByKinds.{lasting-place}, Numbering.{rises_catalog}}
-use Rattle.rm_catalog.proofs.{Unique.{Rises, all_above}, Telling.{record-told}}
+use Rattle.rm_catalog.proofs.{ByKinds.{lasting-place}, Numbering.{rises_catalog}, Unique.{Rises, all_above}, Telling.{record-told}}
 use Rattle.rm_catalog.specs.declared.record.Record.TheVariants as records
 use Rattle.rm_evidence.proofs.Found.{obeys}
 use Rattle.rm_catalog_typed.specs.LedgerFacts.{IsLedger}

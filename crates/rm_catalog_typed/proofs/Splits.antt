@@ -6,7 +6,7 @@ use Rattle.std.proofs.lemmas.{Bool.{cond-false, cond-true, le-ltb, lt-ltb, ne_eq
 use Rattle.std.proofs.lemmas.List.{append-nil, get_or-drop, get_or_default, get_or-take, set_split, take-append-drop}
 use Rattle.std.proofs.lemmas.{List.Elements.{All-cons, All-push, All-weaker, filter-append}, Option.{slice_get-get_or, slice_get_cases}}
 use Rattle.std.proofs.Math.Seq.{drop-cons, take-suc}
-use Rattle.rm_catalog.proofs.Filters.{filter_all, filter_none}
+use Rattle.rm_base.proofs.Lists.{filter_all, filter_none}
 use Rattle.rm_catalog_typed.specs.{Changes.{higher, lower}, Places.{IsAt, IsGap}}
 
 -- what holds of each before a place, and from it on

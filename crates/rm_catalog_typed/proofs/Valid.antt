@@ -13,10 +13,9 @@ use Rattle.rm_catalog.specs.{Saved.{HeadRule, NamesOne, PartRule, is_part_of}, S
 use Rattle.rm_catalog.specs.{Switches.{IsAt, SwitchRule}, declared.record.DatafileEntry.{DatafileEntry}}
 use Rattle.rm_catalog.specs.declared.record.{IncarnationEntry.{IncarnationEntry}, LogEntry.{LogEntry}, PartEntry.{PartEntry}}
 use Rattle.rm_catalog.specs.declared.record.{PieceEntry.{PieceEntry}, Record.{Record}, SetEntry.{SetEntry}, SetPart.{SetPart}}
-use Rattle.rm_catalog.proofs.{Counts.{alike_count}, Filters.{filter_none}, ByKinds.{all-free, free-in, lasting-place, own-free}}
-use Rattle.rm_catalog.proofs.Told.{at_here, at_past}
+use Rattle.rm_catalog.proofs.{Counts.{alike_count}, ByKinds.{all-free, free-in, lasting-place, own-free}, Told.{at_here, at_past}}
 use Rattle.rm_catalog.specs.declared.record.Record.TheVariants as kind
-use Rattle.rm_base.proofs.{Members.{in-front, none-in}, Lists.{map_from}}
+use Rattle.rm_base.proofs.{Members.{in-front, none-in}, Lists.{map_from, filter_none}}
 use Rattle.rm_catalog_typed.specs.Ledger.{back_records, front_records, ledger_records}
 use Rattle.rm_catalog_typed.specs.Facts.{AreApart, IsPartEntry, IsTypedCatalog, IsSaved}
 use Rattle.rm_catalog_typed.specs.TypedCatalog.{TypedCatalog, Saved, records_of, saved_records}

@@ -4,13 +4,13 @@ use Rattle.std.specs.Option.{option_map_or}
 use Rattle.std.proofs.Common.{◌≡◌, ◌≢◌, ◌<◌, ◌≤◌, ◌+◌, ◌-◌, ◌∙◌, ◌==◌, ℕ, List, Option, Some, None, true, false, cond, refl, ap, sym, subst, arith, length, map, Contains, get_or, is_none, nat_le, nat_lt, slice_get, unwrap_or}
 use Rattle.std.proofs.lemmas.{Bool.{and_parts, eqb-true, le-leb}, List.{get_or-map, length-map, Elements.{All-map, All-weaker}}}
 use Rattle.rm_base.specs.{Created.{created_row}, declared.block.{Change.{Change}, Row.{Row}}}
-use Rattle.rm_base.specs.declared.kinds.Kind.TheVariants.{Full, Level0, Level1, Place}
+use Rattle.rm_base.{specs.declared.kinds.Kind.TheVariants.{Full, Level0, Level1, Place}, proofs.Lists.{filter_all}}
 use Rattle.rm_catalog.specs.{SetRules.{FitsPartKind}, declared.record.SetEntry.{SetEntry}}
 use Rattle.rm_history.specs.{Agrees.{IsRow as IsState}, History.{IsHistory}, Tree.{owner}, World.{creation_of}}
 use Rattle.rm_history.{specs.declared.world.Datafile.{Datafile}, proofs.Highs.{high-least}}
 use Rattle.rm_catalog_typed.specs.LedgerFacts.{IsCreated, IsSetPart}
 use Rattle.rm_piece.specs.{Filling.{risen}, Rows.{from_on}, Sets.{IsMember}, Valid.{IsPiece}, declared.set.{Set.{Set}, SetFile.{SetFile}}}
-use Rattle.rm_piece.proofs.{Filled.{filter-all}, Risen.{risen-member, states-same}, SetFitting.{few_spelled}}
+use Rattle.rm_piece.proofs.{Risen.{risen-member, states-same}, SetFitting.{few_spelled}}
 use Rattle.rm_lang_statement.specs.declared.command.BackupForm.{BackupForm}
 use Rattle.rm_machine.specs.{Backup.{kind_by, part_of, rows_from}, Effect.{a_piece}, Machine.{IsTrueArtefact}, MadePieces.{piece_by}}
 use Rattle.rm_machine.specs.{MadeSets.{member_by}, Sound.{IsSound}, State.{ledger, tree, world, current_of, now_of}, declared.job.Job.{Job}}
@@ -92,7 +92,7 @@ module _ (t : State) (b : BackupForm) (f checkpoint : ℕ) (rows : List Row) (so
   member-valid from begins all = piece-valid t b f checkpoint (map rising rows) sound risen-read at from begins (all-risen from all)
 
   rows-are : (from : Option ℕ) → rows_from from (map rising rows) ≡ from_on (unwrap_or from 0) (map rising rows)
-  rows-are None = sym (filter-all (λ (r : Row). nat_le 0 r.version) (map rising rows) (λ k d inside. le-leb 0 _ (omega arith)))
+  rows-are None = sym (filter_all (λ (r : Row). nat_le 0 r.version) (map rising rows) (λ k d inside. le-leb 0 _ (omega arith)))
   rows-are (Some from) = refl
 
   pub member-is : (members : List SetFile) (from : Option ℕ) → BeginsBelow checkpoint from → AreAll are.datafile.creation from (length rows) are.datafile.blocks → IsMember (set_with t checkpoint members) (member from)

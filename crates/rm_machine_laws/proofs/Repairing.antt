@@ -4,9 +4,8 @@ use Rattle.std.proofs.Common.{◌≡◌, ◌-◌, ◌∙◌, ◌++◌, ◌==◌,
 use Rattle.std.proofs.lemmas.{Bool.{and_from, and_parts, cases_Bool}, List.{append-nil, Elements.{All-contains, All-weaker}}}
 use Rattle.std.proofs.lemmas.Option.{slice_get-get_or}
 use Rattle.rm_base.specs.{Store.{Held}, declared.block.{BlockId.{BlockId}, Change.{Change}, Row.{Row}}}
-use Rattle.rm_base.proofs.{Lists.{any_fails, any_from, any_to, filter_from, filter_to}, Slots.{all-get}}
+use Rattle.rm_base.proofs.{Lists.{any_fails, any_from, any_to, filter_from, filter_to, filter_none}, Slots.{all-get}}
 use Rattle.rm_blocks.specs.File.{File}
-use Rattle.rm_catalog.proofs.Filters.{filter_none}
 use Rattle.rm_catalog_typed.{specs.TypedCatalog.{records_of}, proofs.{Valid.{typed_catalog-valid}, Records.{tree-told}}}
 use Rattle.rm_channel.specs.Made.{AreThese, deed}
 use Rattle.rm_evidence.{specs.{Known.{FitsTree, known_of}, declared.evidence.Evidence.{Evidence}}, proofs.Fitting.{gathered-fits}}

@@ -2,7 +2,7 @@
 use Rattle.std.proofs.Common.{◌≡◌, ◌∙◌, ◌+◌, ◌<◌, ◌≤◌, ℕ, zero, suc, List, [], ◌∷◌, ◌++◌, Bool, true, false, cond, eqb, nat_lt, if◌then◌else◌, append_assoc, refl, ap, sym, subst, inl, inr, arith, length, get_or, filter, All}
 use Rattle.std.proofs.lemmas.{Bool.{cases_Bool, cases_eq, eq-eqb, le-ltb, lt-ltb, ltb-false, ltb-true, ne_eqb}, List.{length-append}}
 use Rattle.std.proofs.lemmas.List.Elements.{All-filter, All-cons, All-nil, filter-append, filter_passes}
-use Rattle.rm_base.{specs.{Created.{created_row}, declared.block.Row.{Row}}, proofs.Items.{All-tail}}
+use Rattle.rm_base.{specs.{Created.{created_row}, declared.block.Row.{Row}}, proofs.{Items.{All-tail}, Lists.{filter_all}}}
 use Rattle.rm_history.specs.State.{rows_from}
 use Rattle.rm_piece.specs.{Filling.{next_left, next_or, over, IsAbove, IsFilled}, Sets.{written, IsSince}}
 
@@ -17,14 +17,9 @@ filter-first p r rs passes = ap (λ b. cond b (r ∷ filter p rs) (filter p rs))
 filter-rest : (p : Row → Bool) (r : Row) (rs : List Row) → p r ≡ false → filter p (r ∷ rs) ≡ filter p rs
 filter-rest p r rs fails = ap (λ b. cond b (r ∷ filter p rs) (filter p rs)) fails
 
-pub filter-all : (p : Row → Bool) (rows : List Row) → All (λ r. p r ≡ true) rows → filter p rows ≡ rows
-filter-all p [] passes = refl
-filter-all p (r ∷ rs) passes =
-    filter-first p r rs (passes 0 r (omega arith)) ∙ ap (λ xs. r ∷ xs) (filter-all p rs (All-tail (λ (x : Row). p x ≡ true) r rs passes))
-
 -- where every row is of a written block, all of them are written
 pub written-all : (creation : ℕ) (rows : List Row) → All (IsAbove creation) rows → written creation rows ≡ rows
-written-all creation rows above = filter-all (λ (r : Row). nat_lt creation r.version) rows (λ k d inside. lt-ltb creation _ (above k d inside))
+written-all creation rows above = filter_all (λ (r : Row). nat_lt creation r.version) rows (λ k d inside. lt-ltb creation _ (above k d inside))
 
 -- ---- one block after another
 

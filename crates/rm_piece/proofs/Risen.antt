@@ -3,11 +3,11 @@ use Rattle.std.proofs.Common.{◌≡◌, ◌≢◌, ◌∙◌, ◌<◌, ◌≤�
 use Rattle.std.proofs.lemmas.{Bool.{cases_lt, lt-ltb, le-ltb, le-leb}, List.{get_or-map, length-map}}
 use Rattle.std.proofs.lemmas.List.Elements.{All-contains_itself, All-filter, All-map}
 use Rattle.rm_base.specs.{Created.{created_row}, Numbers.{last_scn}, declared.block.{Change.{Change}, Row.{Row}}}
-use Rattle.rm_base.{specs.declared.kinds.Kind.TheVariants.{Place}, proofs.Items.{All-tail}}
+use Rattle.rm_base.{specs.declared.kinds.Kind.TheVariants.{Place}, proofs.{Items.{All-tail}, Lists.{filter_all}}}
 use Rattle.rm_history.specs.{Agrees.{IsRow as IsState}, History.{IsHistory}, State.{state}, World.{creation_of}}
 use Rattle.rm_history.{specs.declared.world.World.{World}, proofs.States.{concerns-risen, state-held}}
 use Rattle.rm_piece.specs.{Filling.{risen}, Rows.{IsWhole, from_on}, Sets.{IsMember, IsOf, IsSince}, Valid.{IsPiece, IsRow}}
-use Rattle.rm_piece.{specs.declared.set.{Set.{Set}, SetFile.{SetFile}}, proofs.Filled.{at_creation, filter-all}}
+use Rattle.rm_piece.{specs.declared.set.{Set.{Set}, SetFile.{SetFile}}, proofs.Filled.{at_creation}}
 
 -- ---- one row
 
@@ -77,7 +77,7 @@ states-same w h i f c rows history are = risen-same (creation_of w f) rows (λ k
 
 -- none of them lies below an SCN up to the creation
 from_on-all : (creation from : ℕ) (rows : List Row) → from ≤ creation → All (IsSince creation) rows → from_on from rows ≡ rows
-from_on-all creation from rows low since = filter-all (λ (r : Row). nat_le from r.version) rows (λ k d inside. let above = (since k d inside).since in le-leb from _ (omega (arith, low, above)))
+from_on-all creation from rows low since = filter_all (λ (r : Row). nat_le from r.version) rows (λ k d inside. let above = (since k d inside).since in le-leb from _ (omega (arith, low, above)))
 
 pub risen-member : (s : Set) (m : SetFile) (rows : List Row) → IsOf s m → IsPiece m.piece → m.piece.kind ≢ Place → 1 ≤ m.creation → m.creation < s.checkpoint → (m.piece.from ≤ m.creation → length rows ≡ m.piece.blocks) → m.piece.rows ≡ from_on m.piece.from (map (risen m.creation) rows) → IsMember s m
 risen-member s m rows of piece backup some below many is =
