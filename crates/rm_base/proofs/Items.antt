@@ -1,21 +1,44 @@
 -- Lists of items with the same number of bytes each, and lists that ascend.
 use Rattle.std.specs.List.{flat_map, AllPairs, AllAdjacentBelow}
-use Rattle.std.proofs.Common.{◌≡◌, ◌+◌, ◌-◌, ◌*◌, ◌<◌, ℕ, zero, suc, List, [], ◌∷◌, ◌++◌, length, get_or, All, refl, subst, arith}
+use Rattle.std.proofs.Common.{◌≡◌, ◌∙◌, ◌+◌, ◌-◌, ◌*◌, ◌<◌, ℕ, zero, suc, List, [], ◌∷◌, ◌++◌, length, get_or, All, refl, sym, subst, arith, append-nil, append_assoc}
 use Rattle.std.proofs.lemmas.List.{length-append}
 
 pub All-tail : {A : Type 0} (P : A → Type 0) (x : A) (xs : List A) → All P (x ∷ xs) → All P xs
 All-tail P x xs all k d inside = all (suc k) d (omega arith)
 
--- where the bytes of one item tell the item and what follows, the bytes of as many items tell the items
-pub items_same : {A : Type 0} (spell : A → List ℕ) (Fits : A → Type 0) → ((a b : A) (x y : List ℕ) → Fits a → Fits b → spell a ++ x ≡ spell b ++ y → (a ≡ b) × (x ≡ y)) → (xs ys : List A) → length xs ≡ length ys → All Fits xs → All Fits ys → flat_map spell xs ≡ flat_map spell ys → xs ≡ ys
-items_same spell Fits one [] [] len fx fy e = refl
-items_same spell Fits one [] (y ∷ ys) len fx fy e = absurd (omega arith)
-items_same spell Fits one (x ∷ xs) [] len fx fy e = absurd (omega arith)
-items_same spell Fits one (x ∷ xs) (y ∷ ys) len fx fy e =
-    let first = one x y (flat_map spell xs) (flat_map spell ys) (fx 0 x (omega arith)) (fy 0 y (omega arith)) e in
-    let others = items_same spell Fits one xs ys (omega arith) (All-tail Fits x xs fx) (All-tail Fits y ys fy) first.1 in
-    let same = first.0 in
-    cc
+-- the item behind those that were read, of a list that the same bytes spell
+pub record NextItem {A : Type 0} (spell : A → List ℕ) (Fits : A → Type 0) (xs ys : List A) (rest : List ℕ) : Type 0 where
+  pub item : A
+  pub fits : Fits item
+  pub others : List A
+  pub list : ys ≡ xs ++ item ∷ others
+  pub spelled : rest ≡ spell item ++ flat_map spell others
+
+module _ {A : Type 0} (spell : A → List ℕ) (Fits : A → Type 0) (one : (a b : A) (x y : List ℕ) → Fits a → Fits b → spell a ++ x ≡ spell b ++ y → (a ≡ b) × (x ≡ y)) where
+  -- where the bytes of one item tell the item and what follows, the bytes of as many items tell the items and what follows
+  pub items_front : (xs ys : List A) (x y : List ℕ) → length xs ≡ length ys → All Fits xs → All Fits ys → flat_map spell xs ++ x ≡ flat_map spell ys ++ y → (xs ≡ ys) × (x ≡ y)
+  items_front [] [] x y len fx fy e = (refl, e)
+  items_front [] (b ∷ bs) x y len fx fy e = absurd (omega arith)
+  items_front (a ∷ cs) [] x y len fx fy e = absurd (omega arith)
+  items_front (a ∷ cs) (b ∷ bs) x y len fx fy e =
+      let apart : spell a ++ (flat_map spell cs ++ x) ≡ spell b ++ (flat_map spell bs ++ y) = sym (append_assoc (spell a) (flat_map spell cs) x) ∙ e ∙ append_assoc (spell b) (flat_map spell bs) y in
+      let first = one a b _ _ (fx 0 a (omega arith)) (fy 0 b (omega arith)) apart in
+      let others = items_front cs bs x y (omega arith) (All-tail Fits a cs fx) (All-tail Fits b bs fy) first.1 in
+      (λ i. first.0 i ∷ others.0 i, others.1)
+
+  -- so the bytes of as many items tell the items
+  pub items_same : (xs ys : List A) → length xs ≡ length ys → All Fits xs → All Fits ys → flat_map spell xs ≡ flat_map spell ys → xs ≡ ys
+  items_same xs ys len fx fy e = (items_front xs ys [] [] len fx fy (append-nil (flat_map spell xs) ∙ e ∙ sym (append-nil (flat_map spell ys)))).0
+
+  pub items_next : (xs ys : List A) (rest : List ℕ) → length xs < length ys → All Fits xs → All Fits ys → flat_map spell xs ++ rest ≡ flat_map spell ys → NextItem spell Fits xs ys rest
+  items_next [] [] rest less fx fy e = absurd (omega arith)
+  items_next (a ∷ cs) [] rest less fx fy e = absurd (omega arith)
+  items_next [] (b ∷ bs) rest less fx fy e = record { item = b; fits = fy 0 b (omega arith); others = bs; list = refl; spelled = e }
+  items_next (a ∷ cs) (b ∷ bs) rest less fx fy e =
+      let apart : spell a ++ (flat_map spell cs ++ rest) ≡ spell b ++ flat_map spell bs = sym (append_assoc (spell a) (flat_map spell cs) rest) ∙ e in
+      let first = one a b _ _ (fx 0 a (omega arith)) (fy 0 b (omega arith)) apart in
+      let next = items_next cs bs rest (omega arith) (All-tail Fits a cs fx) (All-tail Fits b bs fy) first.1 in
+      record { item = next.item; fits = next.fits; others = next.others; list = λ i. sym first.0 i ∷ next.list i; spelled = next.spelled }
 
 -- items of n bytes each
 pub length-items : {A : Type 0} (spell : A → List ℕ) (Fits : A → Type 0) (n : ℕ) → ((a : A) → Fits a → length (spell a) ≡ n) → (xs : List A) → All Fits xs → length (flat_map spell xs) ≡ n * length xs

@@ -1,8 +1,8 @@
 -- A set with its parts and its ending.
 use Rattle.std.specs.List.{flat_map}
-use Rattle.std.proofs.Common.{◌≡◌, ◌∙◌, ◌*◌, ◌^◌, ◌<◌, ◌≤◌, List, ℕ, [], ◌∷◌, ◌++◌, length, All, refl, sym, ap, arith, append_assoc}
+use Rattle.std.proofs.Common.{◌≡◌, ◌∙◌, ◌*◌, ◌^◌, ◌<◌, ◌≤◌, List, ℕ, ◌++◌, length, All, refl, sym, ap, arith}
 use Rattle.std.proofs.lemmas.List.{length-append}
-use Rattle.rm_base.{specs.Number.{four, eight}, proofs.{Items.{All-tail, items_same, length-items}, Wide.{fronts_same}}}
+use Rattle.rm_base.{specs.Number.{four, eight}, proofs.{Items.{items_same, length-items}, Wide.{fronts_same}}}
 use Rattle.rm_catalog.specs.declared.record.{SetEntry.{SetEntry}, SetPart.{SetPart}}
 use Rattle.rm_catalog_bytes.specs.Fits.{SetPartFits, SetFits}
 use Rattle.rm_catalog_bytes.specs.Spelling.{kind_code, set_part_bytes, set_head, set_ending, set_bytes, ending_bytes}
@@ -11,7 +11,7 @@ use Rattle.rm_catalog_bytes.proofs.Told.{set_part_told, length-set_part, SetTold
 
 -- ---- its parts
 
-set_part_same : (p q : SetPart) (x y : List ℕ) → SetPartFits p → SetPartFits q → set_part_bytes p ++ x ≡ set_part_bytes q ++ y → (p ≡ q) × (x ≡ y)
+pub set_part_same : (p q : SetPart) (x y : List ℕ) → SetPartFits p → SetPartFits q → set_part_bytes p ++ x ≡ set_part_bytes q ++ y → (p ≡ q) × (x ≡ y)
 set_part_same p q x y fp fq e =
     let told = set_part_told q p.file (kind_code p.kind) p.from p.high p.rows x y fq fp.file fp.from fp.high fp.rows (sym (set_part_fields p x) ∙ e) in
     let kind = kind_same p.kind q.kind told.kind in
@@ -22,21 +22,6 @@ parts_same ps qs = items_same set_part_bytes SetPartFits set_part_same ps qs
 
 pub length-parts : (ps : List SetPart) → All SetPartFits ps → length (flat_map set_part_bytes ps) ≡ 25 * length ps
 length-parts ps fits = length-items set_part_bytes SetPartFits 25 (λ p _. length-set_part p) ps fits
-
--- the part behind those that were read, of a list that the same bytes spell
-pub record NextPart (rest : List ℕ) : Type 0 where
-  pub part : SetPart
-  pub fits : SetPartFits part
-  pub after : List ℕ
-  pub spelled : rest ≡ set_part_bytes part ++ after
-
-pub next_part : (ps qs : List SetPart) (rest : List ℕ) → length ps < length qs → All SetPartFits ps → All SetPartFits qs → flat_map set_part_bytes ps ++ rest ≡ flat_map set_part_bytes qs → NextPart rest
-next_part ps [] rest less fp fq e = absurd (omega arith)
-next_part [] (q ∷ qs) rest less fp fq e = record { part = q; fits = fq 0 q (omega arith); after = flat_map set_part_bytes qs; spelled = e }
-next_part (p ∷ ps) (q ∷ qs) rest less fp fq e =
-    let apart = sym (append_assoc (set_part_bytes p) (flat_map set_part_bytes ps) rest) ∙ e in
-    let first = set_part_same p q _ _ (fp 0 p (omega arith)) (fq 0 q (omega arith)) apart in
-    next_part ps qs rest (omega arith) (All-tail SetPartFits p ps fp) (All-tail SetPartFits q qs fq) first.1
 
 -- ---- the whole
 

@@ -1,7 +1,6 @@
 pub mod Bodies
 pub mod Filled
 pub mod Fitting
-pub mod Fronts
 pub mod Highs
 pub mod Picked
 pub mod Risen

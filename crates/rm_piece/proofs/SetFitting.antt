@@ -3,12 +3,12 @@ use Rattle.std.specs.List.{flat_map, sum_by}
 use Rattle.std.proofs.Common.{◌≡◌, ◌∙◌, ◌+◌, ◌*◌, ◌^◌, ◌<◌, ◌≤◌, ℕ, List, [], ◌∷◌, ◌++◌, nat_lt, if◌then◌else◌, length, All, refl, ap, sym, subst, arith, append_assoc, inl, inr}
 use Rattle.std.proofs.lemmas.{Bool.{cases_lt, le-ltb, lt-ltb}, List.{length-append, Elements.{All-filter}}}
 use Rattle.std.proofs.lemmas.List.Sums.{length-filter, count_by-le-length, sum_by-cons}
-use Rattle.rm_base.{specs.declared.block.Row.{Row}, proofs.{Items.{items_same, All-tail}, Sealing.{sealed_same, length-sealed}}}
+use Rattle.rm_base.{specs.declared.block.Row.{Row}, proofs.{Items.{items_front, items_same, All-tail}, Sealing.{sealed_same, length-sealed}}}
 use Rattle.rm_piece.specs.{Filling.{IsSpread, over}, Fits.{RowFits}, SetFits.{MemberHeadFits, SetHeadFits}}
 use Rattle.rm_piece.specs.SetSpelling.{member_bytes, member_head, set_body, set_head, set_spelling, spelled}
 use Rattle.rm_piece.specs.{Sets.{blocks_in, written, IsMember, IsOf, IsSet}, Spelling.{row_bytes}, declared.set.Set.{Set}}
 use Rattle.rm_piece.{specs.declared.set.SetFile.{SetFile}, proofs.Bodies.{row_same, length-rows}}
-use Rattle.rm_piece.proofs.{Filled.{filled_back, unwritten_from, written-all}, Fitting.{few_rows, fits}, Fronts.{items_front}}
+use Rattle.rm_piece.proofs.{Filled.{filled_back, unwritten_from, written-all}, Fitting.{few_rows, fits}}
 use Rattle.rm_piece.proofs.Highs.{count_fits}
 use Rattle.rm_piece.proofs.{SetBodies.{SameMemberHead, length-member_head, length-set_head, member_head_same, set_head_same}, Whole.{whole}}
 

@@ -1,13 +1,11 @@
 -- What a valid set that the bytes spell tells of what was read of them.
 use Rattle.std.specs.List.{flat_map}
-use Rattle.std.proofs.Common.{◌≡◌, ◌∙◌, ◌+◌, ◌-◌, ◌*◌, ◌^◌, ◌<◌, ◌≤◌, ℕ, List, [], ◌∷◌, ◌++◌, length, take, drop, All, ap, sym, subst, arith, append_assoc, append-nil}
-use Rattle.std.proofs.lemmas.List.{length-append, take-append-drop, Concat.{flat_map-append}}
-use Rattle.std.proofs.lemmas.List.{Elements.{All-contains, Contains-append_right}, Sums.{sum_by-append, sum_by-cons, sum_by_push}}
-use Rattle.rm_base.{specs.declared.block.Row.{Row}, proofs.Members.{in-front}}
+use Rattle.std.proofs.Common.{◌≡◌, ◌∙◌, ◌+◌, ◌-◌, ◌*◌, ◌^◌, ◌<◌, ◌≤◌, ℕ, List, [], ◌∷◌, ◌++◌, length, take, drop, All, ap, sym, arith, append_assoc, append-nil}
+use Rattle.std.proofs.lemmas.List.{length-append, take-append-drop, Concat.{flat_map-append}, Sums.{sum_by-append, sum_by-cons, sum_by_push}}
+use Rattle.rm_base.{specs.declared.block.Row.{Row}, proofs.Items.{items_front, items_next, NextItem}}
 use Rattle.rm_piece.specs.{Filling.{IsSpread}, Fits.{RowFits}, SetFits.{MemberHeadFits, SetHeadFits}}
 use Rattle.rm_piece.specs.{SetSpelling.{member_bytes, member_head, set_body, set_head, spelled}, Sets.{blocks_in, written, IsMember, IsSet}}
 use Rattle.rm_piece.{specs.{Spelling.{row_bytes}, declared.set.{Set.{Set}, SetFile.{SetFile}}}, proofs.Bodies.{row_same, length-rows}}
-use Rattle.rm_piece.proofs.Fronts.{items_front, items_next, NextItem}
 use Rattle.rm_piece.proofs.SetBodies.{SameMemberHead, SameSetHead, length-set_head, member_head_same, set_head_same}
 use Rattle.rm_piece.proofs.SetFitting.{few_members, length-member, member_fits, member_same, moved, set_fits, spelled_few, spelled_fits, spread, with_rows}
 
@@ -74,13 +72,13 @@ member-long set m body x is same =
 -- ---- all members
 
 -- the member that is next, of a set whose members the same bytes spell
-pub next-member : (set : Set) (xs ms : List SetFile) (bytes rest : List ℕ) (k : ℕ) → length xs ≡ k → k < length ms → All (IsMember set) xs → All (IsMember set) ms → bytes ≡ flat_map member_bytes xs ++ rest → bytes ≡ flat_map member_bytes ms → NextItem member_bytes xs ms rest
+pub next-member : (set : Set) (xs ms : List SetFile) (bytes rest : List ℕ) (k : ℕ) → length xs ≡ k → k < length ms → All (IsMember set) xs → All (IsMember set) ms → bytes ≡ flat_map member_bytes xs ++ rest → bytes ≡ flat_map member_bytes ms → NextItem member_bytes (IsMember set) xs ms rest
 next-member set xs ms bytes rest k many less valid are parts same =
     items_next member_bytes (IsMember set) (member_same set) xs ms rest (omega (arith, many, less)) valid are (sym parts ∙ same)
 
 -- and there is room for it
-pub next-room : {xs ms : List SetFile} {rest : List ℕ} (room : ℕ) → (next : NextItem member_bytes xs ms rest) → room + blocks_in xs ≡ 131072 → blocks_in ms ≤ 131072 → next.item.piece.blocks ≤ room
-next-room {xs} {ms} {rest} room next left few =
+pub next-room : {set : Set} {xs ms : List SetFile} {rest : List ℕ} (room : ℕ) → (next : NextItem member_bytes (IsMember set) xs ms rest) → room + blocks_in xs ≡ 131072 → blocks_in ms ≤ 131072 → next.item.piece.blocks ≤ room
+next-room {set} {xs} {ms} {rest} room next left few =
     let all = ap (λ (l : List SetFile). blocks_in l) next.list in
     let both = sum_by-append (λ (m : SetFile). m.piece.blocks) xs (next.item ∷ next.others) in
     let first = sum_by-cons (λ (m : SetFile). m.piece.blocks) next.item next.others in
@@ -90,11 +88,6 @@ next-room {xs} {ms} {rest} room next left few =
 pub all-members : (set : Set) (xs ms : List SetFile) (bytes rest : List ℕ) → length xs ≡ length ms → All (IsMember set) xs → All (IsMember set) ms → bytes ≡ flat_map member_bytes xs ++ rest → bytes ≡ flat_map member_bytes ms → (xs ≡ ms) × (rest ≡ [])
 all-members set xs ms bytes rest many valid are parts same =
     items_front member_bytes (IsMember set) (member_same set) xs ms rest [] many valid are (sym parts ∙ same ∙ sym (append-nil (flat_map member_bytes ms)))
-
-pub next-valid : (set : Set) {xs ms : List SetFile} {rest : List ℕ} → (next : NextItem member_bytes xs ms rest) → All (IsMember set) ms → IsMember set next.item
-next-valid set {xs} {ms} {rest} next are =
-    All-contains (IsMember set) (xs ++ next.item ∷ next.others) next.item (subst (All (IsMember set)) next.list are)
-    (Contains-append_right xs (next.item ∷ next.others) next.item (in-front next.item next.others))
 
 -- one member more
 pub turn-members : (xs made : List SetFile) (m : SetFile) (bytes rest after : List ℕ) → bytes ≡ flat_map member_bytes xs ++ rest → rest ≡ member_bytes m ++ after → made ≡ xs ++ m ∷ [] → bytes ≡ flat_map member_bytes made ++ after

@@ -1,11 +1,13 @@
-use Rattle.std.proofs.Common.{◌∙◌, ◌*◌, sym, arith}
-use Rattle.rm_catalog_bytes.proofs.{Fronts.{whole}, SetTold.{next_part, parts_same}}
+use Rattle.std.{specs.List.{flat_map}, proofs.Common.{◌∙◌, ◌*◌, sym, arith}}
+use Rattle.rm_base.proofs.Items.{items_next}
+use Rattle.rm_catalog_bytes.{specs.{Fits.{SetPartFits}, Spelling.{set_part_bytes}}, proofs.Fronts.{whole}}
+use Rattle.rm_catalog_bytes.proofs.SetTold.{parts_same, set_part_same}
 use Rattle.rm_catalog_bytes.proofs.sets.parts_of.Goals as goal
 
 pub returns-in_default-clause-only : goal.returns-in_default-clause-only
 returns-in_default-clause-only c ps many fits is =
-    let next = next_part c.loop.parts.items ps c.loop.rest.now (omega (arith, c.loop.invariant.count, many, c.loop-test.true)) c.loop.invariant.fits fits (sym c.loop.invariant.parts ∙ is) in
-    absurd (c.in_default.ensures.none next.part next.after next.fits next.spelled)
+    let next = items_next set_part_bytes SetPartFits set_part_same c.loop.parts.items ps c.loop.rest.now (omega (arith, c.loop.invariant.count, many, c.loop-test.true)) c.loop.invariant.fits fits (sym c.loop.invariant.parts ∙ is) in
+    absurd (c.in_default.ensures.none next.item (flat_map set_part_bytes next.others) next.fits next.spelled)
 
 pub returns-clause-only : goal.returns-clause-only
 returns-clause-only c ps many fits is =

@@ -1,15 +1,14 @@
 use Rattle.std.{specs.List.{flat_map}, proofs.Common.{rules, ◌≡◌, ◌∙◌, ◌∷◌, [], ◌++◌, arith, length, sym, subst, All}}
 use Rattle.std.proofs.lemmas.List.{length-append, Elements.{All-push}}
 use Rattle.rm_piece.specs.{SetSpelling.{member_bytes}, Sets.{IsMember}}
-use Rattle.rm_piece.proofs.SetReading.{all-members, next-member, next-room, next-valid, turn-members, turn-room}
+use Rattle.rm_piece.proofs.SetReading.{all-members, next-member, next-room, turn-members, turn-room}
 use Rattle.rm_piece.proofs.set_reading.members_of.Goals as goal
 
 pub returns-in_err-member-clause-only : goal.returns-in_err-member-clause-only
 returns-in_err-member-clause-only c ms many are few same =
     let next = next-member c.args.set.now c.loop.members.items ms c.args.bytes.now c.loop.rest.now c.loop.counter c.loop.invariant.count (omega (arith, many, c.loop-test.true)) c.loop.invariant.valid are c.loop.invariant.parts same in
-    let is = next-valid c.args.set.now next are in
     let room = next-room c.loop.room next c.loop.invariant.room few in
-    let none = c.in_err-member.ensures.only next.item (flat_map member_bytes next.others) is room next.spelled in
+    let none = c.in_err-member.ensures.only next.item (flat_map member_bytes next.others) next.fits room next.spelled in
     search rules
 
 pub loop-preserved : goal.loop-preserved
