@@ -1,8 +1,7 @@
 -- The first fault of all datafiles: each block of the datafiles before it is determined.
 use Rattle.std.proofs.Common.{◌≡◌, ◌<◌, ◌++◌, ◌∷◌, [], inl, inr, ℕ, List, AllPairs, Option, Some, None, IfNone, IfSome, Contains, map, sym, subst, arith}
 use Rattle.std.proofs.lemmas.List.Elements.{Contains-append_cases, Contains-append_right}
-use Rattle.rm_base.proofs.Members.{first-or-rest, in-front}
-use Rattle.rm_evidence.proofs.Extending.{pairs-head, pairs-tail}
+use Rattle.rm_base.proofs.{Members.{first-or-rest, in-front}, Lists.{pairs-head, pairs-tail}}
 use Rattle.rm_history.specs.{Evidence.{Evidence}, FirstGap.{IsFirstGap, IsRecoverable}, Unknown.{IsUnknown}, declared.world.World.{World}}
 use Rattle.rm_plan.specs.{FirstGap.{FilesBelow}, Plan.{IsFileFault, IsFileTarget}, declared.plan.{Gap.{Gap}, PlanFault.{PlanFault}}}
 use Rattle.rm_plan.proofs.Firsts.{first_of_all, gap_of_file}

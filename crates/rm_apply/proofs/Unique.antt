@@ -1,9 +1,9 @@
 -- What is at hand is one: the store and the records leave no choice.
 use Rattle.std.proofs.Common.{◌≡◌, ◌∙◌, ◌++◌, inl, inr, ℕ, List, [], ◌∷◌, ap, sym, refl, subst, arith, AllPairs, Contains}
 use Rattle.rm_base.{specs.{Store.{Held}, declared.kinds.Bad.{Bad}}, proofs.Members.{behind, first-or-rest, in-front, none-in}}
+use Rattle.rm_base.proofs.Lists.{pairs-head, pairs-tail}
 use Rattle.rm_catalog.specs.declared.record.Record.{Record}
 use Rattle.rm_evidence.specs.{Gathered.{ById, ByIdAndFile, IsGathered, ListsBy}, declared.evidence.{Evidence.{Evidence}, InPlace.{InPlace}}}
-use Rattle.rm_evidence.proofs.Extending.{pairs-head, pairs-tail}
 use Rattle.rm_piece.specs.declared.piece.Piece.{Piece}
 use Rattle.rm_redo.specs.declared.log_file.LogFile.{LogFile}
 

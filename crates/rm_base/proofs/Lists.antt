@@ -1,8 +1,9 @@
 -- Items of lists that are filtered, mapped, searched and read from the front.
-use Rattle.std.specs.List.{AllZip, list_any}
+use Rattle.std.specs.List.{AllPairs, AllZip, list_any}
 use Rattle.std.proofs.Common.{◌≡◌, ◌∙◌, ◌⊎◌, ◌<◌, ◌+◌, inl, inr, ℕ, suc, List, [], ◌∷◌, ◌++◌, Bool, true, false, cond, Some, None, refl, ap, sym, subst, arith, filter, map, find, length, take, get_or, All, Contains}
-use Rattle.std.proofs.lemmas.{Bool.{cases_Bool}, List.Elements.{All-contains, All-contains_itself, All-filter, filter_passes}}
-use Rattle.std.proofs.{lemmas.List.Folds.{Any-from_list_any, list_any-from_Any}, Math.Seq.{take-suc}}
+use Rattle.std.proofs.lemmas.Bool.{cases_Bool}
+use Rattle.std.proofs.lemmas.List.Elements.{All-contains, All-contains_itself, All-filter, Contains-append_cases, Contains-get_or, filter_passes}
+use Rattle.std.proofs.{lemmas.List.{Kept.{AllPairs-cons}, Folds.{Any-from_list_any, list_any-from_Any}}, Math.Seq.{take-suc}}
 use Rattle.rm_base.proofs.Members.{in-front, behind, none-in, first-or-rest}
 
 -- what a filter keeps was there, and passes
@@ -171,3 +172,21 @@ all_zip_join R [] ys [] vs first second = second
 all_zip_join R [] ys (u ∷ us) vs first second = absurd first
 all_zip_join R (x ∷ xs) ys [] vs first second = absurd first
 all_zip_join R (x ∷ xs) ys (u ∷ us) vs first second = (first.0, all_zip_join R xs ys us vs first.1 second)
+
+module _ {X : Type 0} (R : X → X → Type 0) where
+  -- what holds of all pairs holds of the first and each later one, and of those behind the first
+  pub pairs-head : (x : X) (xs : List X) (y : X) → AllPairs R (x ∷ xs) → Contains xs y → R x y
+  pairs-head x xs y all (k, inside, is) = subst (λ z. R x z) is (all 0 (suc k) y (omega arith) (omega arith))
+
+  pub pairs-tail : (x : X) (xs : List X) → AllPairs R (x ∷ xs) → AllPairs R xs
+  pairs-tail x xs all i j d less inside = all (suc i) (suc j) d (omega arith) (omega arith)
+
+  -- what holds in both lists, and of each of the first with each of the second, holds of all pairs
+  pub pairs-append : (xs ys : List X) → AllPairs R xs → AllPairs R ys → ((x y : X) → Contains xs x → Contains ys y → R x y) → AllPairs R (xs ++ ys)
+  pairs-append [] ys first second cross = second
+  pairs-append (x ∷ xs) ys first second cross =
+      AllPairs-cons R x (xs ++ ys) (λ k d inside. elim (Contains-append_cases xs ys (get_or (xs ++ ys) k d) (Contains-get_or (xs ++ ys) k d inside)) [
+        | inl here ↦ pairs-head x xs _ first here
+        | inr there ↦ cross x _ (in-front x xs) there
+      ])
+      (pairs-append xs ys (pairs-tail x xs first) second (λ y z here there. cross y z (behind x xs y here) there))

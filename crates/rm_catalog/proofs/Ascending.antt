@@ -1,10 +1,10 @@
 -- Records that ascend, each key once: edits keep that, and there is one order of them.
 use Rattle.std.specs.Prelude.{Contains, IsPermutation}
-use Rattle.std.proofs.Common.{◌≡◌, ℕ, zero, suc, ◌+◌, ◌-◌, ◌<◌, ◌≤◌, Bool, ltb, cond, List, [], ◌∷◌, ◌++◌, length, get_or, refl, ap, sym, ◌∙◌, arith, eq-eqb, inl, inr, All}
-use Rattle.std.proofs.lemmas.Bool.{cases_lt, cases_eq}
-use Rattle.std.proofs.lemmas.List.{get_or_default, get_or_at, get_or-append-add, length-append, get_or_append_left, get_or-append_right}
+use Rattle.std.proofs.Common.{◌≡◌, ℕ, zero, suc, ◌+◌, ◌<◌, ◌≤◌, Bool, ltb, cond, List, [], ◌∷◌, ◌++◌, length, get_or, refl, ap, sym, ◌∙◌, arith, eq-eqb, inl, inr, All}
+use Rattle.std.proofs.lemmas.{Bool.{cases_eq}, List.{get_or_at, get_or-append-add, length-append, get_or_append_left}}
 use Rattle.std.proofs.lemmas.List.{Elements.{All-contains}, Kept.{AllPairs-filter}}
 use Rattle.std.proofs.lemmas.List.Sorted.{IsPermutation-sym, IsPermutation-trans, Contains-permutation}
+use Rattle.rm_base.proofs.{Lists.{pairs-append}, Members.{AllPairs-front}}
 use Rattle.rm_catalog.specs.{Keys.{place_of, place_of_key, Ascends, InOrder}, Rules.{IsOrderOf}}
 use Rattle.rm_catalog.specs.{Edits.{below, above, after_edit, after_edits}, declared.record.{Record.{Record}, Edit.{Edit}}}
 use Rattle.rm_catalog.{specs.declared.record.Edit.TheVariants.{Put, Drop}, proofs.{Counts.{alike}, Found.{differ}}}
@@ -22,27 +22,7 @@ in_order_of rs up i j d le lt = elim (cases_eq i j) [
 
 -- two lists that ascend, the first below the second
 pub ascends_append : (xs ys : List Record) → Ascends xs → Ascends ys → ((x y : Record) → Contains xs x → Contains ys y → place_of x < place_of y) → Ascends (xs ++ ys)
-ascends_append xs ys up down apart i j d less lt =
-    let long = length-append xs ys in
-    elim (cases_lt i (length xs)) [
-      | inl low ↦ elim (cases_lt j (length xs)) [
-        | inl both ↦
-            let one = ap place_of (get_or_append_left xs ys d i low) in
-            let two = ap place_of (get_or_append_left xs ys d j both) in
-            let here : place_of (get_or xs i d) < place_of (get_or xs j d) = up i j d less both in
-            omega arith
-        | inr high ↦
-            let one = ap place_of (get_or_append_left xs ys d i low) in
-            let two = ap place_of (get_or-append_right xs ys (length xs) j d refl high) in
-            let here = apart (get_or xs i d) (get_or ys (j - length xs) d) (i, low, get_or_default xs i (get_or xs i d) d low) (j - length xs, omega arith, get_or_default ys (j - length xs) (get_or ys (j - length xs) d) d (omega arith)) in
-            omega arith
-      ]
-      | inr high ↦
-          let one = ap place_of (get_or-append_right xs ys (length xs) i d refl high) in
-          let two = ap place_of (get_or-append_right xs ys (length xs) j d refl (omega arith)) in
-          let here : place_of (get_or ys (i - length xs) d) < place_of (get_or ys (j - length xs) d) = down (i - length xs) (j - length xs) d (omega arith) (omega arith) in
-          omega arith
-    ]
+ascends_append = pairs-append (λ (a b : Record). place_of a < place_of b)
 
 -- what stands around a record of a list that ascends
 pub front_below : (xs : List Record) (r : Record) (ys : List Record) → Ascends (xs ++ r ∷ ys) → All (λ x. place_of x < place_of r) xs
@@ -63,12 +43,7 @@ rest_above xs r ys up k d lt =
 
 -- the front of a list that ascends
 pub ascends_front : (xs ys : List Record) → Ascends (xs ++ ys) → Ascends xs
-ascends_front xs ys up i j d less lt =
-    let long = length-append xs ys in
-    let here : place_of (get_or (xs ++ ys) i d) < place_of (get_or (xs ++ ys) j d) = up i j d less (omega arith) in
-    let one = ap place_of (get_or_append_left xs ys d i (omega arith)) in
-    let two = ap place_of (get_or_append_left xs ys d j lt) in
-    omega arith
+ascends_front = AllPairs-front (λ (a b : Record). place_of a < place_of b)
 
 -- an edit keeps that
 pub ascends_after : (e : Edit) (rs : List Record) → Ascends rs → Ascends (after_edit e rs)

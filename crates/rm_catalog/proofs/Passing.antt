@@ -1,10 +1,11 @@
 -- One pass over records and edits.
 use Rattle.std.specs.{Prelude.{Contains}, List.{filter}}
-use Rattle.std.proofs.Common.{◌≡◌, ℕ, zero, suc, ◌+◌, ◌-◌, ◌<◌, ◌≤◌, Bool, ltb, List, [], ◌∷◌, ◌++◌, length, get_or, take, drop, refl, ap, sym, subst, ◌∙◌, arith, ◌⊎◌, inl, inr, All}
-use Rattle.std.proofs.lemmas.Bool.{cases_lt}
-use Rattle.std.proofs.lemmas.List.{get_or_default, get_or_at, get_or-append-add, append-nil, append_assoc, take-append-drop, get_or-take, get_or-drop, length-take, length-drop, length-append, get_or_append_left, get_or-append_right}
+use Rattle.std.proofs.Common.{◌≡◌, ℕ, zero, suc, ◌+◌, ◌<◌, ◌≤◌, Bool, ltb, List, [], ◌∷◌, ◌++◌, length, get_or, take, drop, refl, ap, sym, subst, ◌∙◌, arith, ◌⊎◌, inl, inr, All}
+use Rattle.std.proofs.lemmas.Bool.{cases_eq}
+use Rattle.std.proofs.lemmas.List.{get_or_default, get_or_at, get_or-append-add, append-nil, append_assoc, take-append-drop, get_or-take, get_or-drop, length-take, length-drop, length-append, get_or_append_left}
 use Rattle.std.proofs.lemmas.List.Elements.{All-contains, All-filter, All-contains_itself, Contains-append_cases, Contains-push_cases}
 use Rattle.std.proofs.lemmas.List.Kept.{IsNonDecreasingBy-filter}
+use Rattle.rm_base.proofs.Lists.{pairs-append}
 use Rattle.rm_catalog.specs.{Keys.{place_of, place_of_key, InOrder}, Edits.{below, above, place_of_edit, after_edit, after_edits}}
 use Rattle.rm_catalog.specs.{Passes.{EditsInOrder, IsReady, HasMade, AllFromPlace}, declared.record.{Record.{Record}, Edit.{Edit}}}
 use Rattle.rm_catalog.{specs.declared.record.Edit.TheVariants.{Put, Drop}, proofs.{Found.{AllBelow, AllFrom}, Unique.{head_or_tail}}}
@@ -31,27 +32,12 @@ drop_last (Drop key) rs not_put all = sym (ap (λ (x : List Record). below (plac
 
 -- two lists in order, the second not below the first
 pub order_append : (xs ys : List Record) → InOrder xs → InOrder ys → ((x y : Record) → Contains xs x → Contains ys y → place_of x ≤ place_of y) → InOrder (xs ++ ys)
-order_append xs ys up down apart i j d le lt =
-    let long = length-append xs ys in
-    elim (cases_lt i (length xs)) [
-      | inl low ↦ elim (cases_lt j (length xs)) [
-        | inl both ↦
-            let one = ap place_of (get_or_append_left xs ys d i low) in
-            let two = ap place_of (get_or_append_left xs ys d j both) in
-            let here = up i j d le both in
-            omega arith
-        | inr high ↦
-            let one = ap place_of (get_or_append_left xs ys d i low) in
-            let two = ap place_of (get_or-append_right xs ys (length xs) j d refl high) in
-            let here = apart (get_or xs i d) (get_or ys (j - length xs) d) (i, low, get_or_default xs i (get_or xs i d) d low) (j - length xs, omega arith, get_or_default ys (j - length xs) (get_or ys (j - length xs) d) d (omega arith)) in
-            omega arith
-      ]
-      | inr high ↦
-          let one = ap place_of (get_or-append_right xs ys (length xs) i d refl high) in
-          let two = ap place_of (get_or-append_right xs ys (length xs) j d refl (omega arith)) in
-          let here = down (i - length xs) (j - length xs) d (omega arith) (omega arith) in
-          omega arith
-    ]
+order_append xs ys up down apart i j d le lt = elim (cases_eq i j) [
+  | inl same ↦ let e = ap (λ (n : ℕ). place_of (get_or (xs ++ ys) n d)) same in omega arith
+  | inr other ↦
+      pairs-append (λ (a b : Record). place_of a ≤ place_of b) xs ys (λ k l e less. up k l e (omega (arith, less))) (λ k l e less. down k l e (omega (arith, less))) apart
+      i j d (grind arith) lt
+]
 
 -- an edit keeps the order
 pub order_after : (e : Edit) (rs : List Record) → InOrder rs → InOrder (after_edit e rs)

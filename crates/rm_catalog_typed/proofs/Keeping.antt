@@ -1,8 +1,6 @@
 -- What is true of records stays true where a tree and the datafiles grow.
-use Rattle.std.specs.{Prelude.{Contains}, List.{AllPairs}}
-use Rattle.std.proofs.Common.{◌≡◌, ◌∙◌, ℕ, ◌-◌, ◌≤◌, ◌⊎◌, inl, inr, List, [], ◌∷◌, ◌++◌, Some, length, get_or, slice_get, refl, ap, sym, subst, arith, length-append}
-use Rattle.std.proofs.lemmas.{Bool.{cases_lt}, List.{get_or_append_left, get_or-append_right, Elements.{All-weaker, Contains-get_or}}}
-use Rattle.std.proofs.lemmas.Option.{slice_get_within}
+use Rattle.std.proofs.Common.{◌≡◌, ◌∙◌, ℕ, ◌-◌, ◌≤◌, ◌⊎◌, inl, inr, List, [], ◌∷◌, ◌++◌, Some, slice_get, ap, arith}
+use Rattle.std.proofs.lemmas.{List.Elements.{All-weaker}, Option.{slice_get_within}}
 use Rattle.rm_base.{specs.declared.block.Mark.{Mark}, proofs.Members.{slice_get-front}}
 use Rattle.rm_catalog.specs.declared.record.{LogEntry.{LogEntry}, PieceEntry.{PieceEntry}, SetEntry.{SetEntry}}
 use Rattle.rm_history.specs.declared.{tree.Incarnation.{Incarnation}, world.Datafile.{Datafile}}
@@ -85,23 +83,3 @@ mark_kept old new before after keeps le m is =
     let scn = is.scn in
     let moment = is.moment in
     record { there = keeps.there m.inc is.there; scn = (omega arith, omega arith); moment = omega arith }
-
--- what holds in both lists, and of each of the first with each of the second, holds of all pairs
-pub pairs_append : {A : Type 0} (R : A → A → Type 0) (xs ys : List A) → AllPairs R xs → AllPairs R ys → ((x y : A) → Contains xs x → Contains ys y → R x y) → AllPairs R (xs ++ ys)
-pairs_append R xs ys front back across i j d less inside =
-    let long = length-append xs ys in
-    elim (cases_lt j (length xs)) [
-      | inl both ↦
-          subst (λ x. R x (get_or (xs ++ ys) j d)) (sym (get_or_append_left xs ys d i (omega arith)))
-          (subst (λ y. R (get_or xs i d) y) (sym (get_or_append_left xs ys d j both)) (front i j d less both))
-      | inr high ↦
-          subst (λ y. R (get_or (xs ++ ys) i d) y) (sym (get_or-append_right xs ys (length xs) j d refl high))
-          (elim (cases_lt i (length xs)) [
-            | inl low ↦
-                subst (λ x. R x (get_or ys (j - length xs) d)) (sym (get_or_append_left xs ys d i low))
-                (across (get_or xs i d) (get_or ys (j - length xs) d) (Contains-get_or xs i d low) (Contains-get_or ys (j - length xs) d (omega arith)))
-            | inr late ↦
-                subst (λ x. R x (get_or ys (j - length xs) d)) (sym (get_or-append_right xs ys (length xs) i d refl late))
-                (back (i - length xs) (j - length xs) d (omega arith) (omega arith))
-          ])
-    ]

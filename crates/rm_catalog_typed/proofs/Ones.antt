@@ -5,7 +5,8 @@ use Rattle.std.proofs.lemmas.{Bool.{ltb-true, Decides.{nat_tests}}, List.{drop_a
 use Rattle.std.proofs.lemmas.List.Elements.{All-append, All-cons, All-contains, All-filter, All-nil, All-take, All-weaker, Contains-get_or, filter_passes}
 use Rattle.std.proofs.lemmas.List.{Filters.{length-filter_both}, Kept.{AllPairs-cons, AllPairs-filter}}
 use Rattle.std.proofs.lemmas.List.Sums.{length-filter, sum_by-le-sum_by}
-use Rattle.rm_catalog_typed.{specs.{Changes.{higher, lower, with_one, without_one}, Fitting.{HasId}}, proofs.Keeping.{pairs_append}}
+use Rattle.rm_base.proofs.Lists.{pairs-append}
+use Rattle.rm_catalog_typed.specs.{Changes.{higher, lower, with_one, without_one}, Fitting.{HasId}}
 use Rattle.rm_catalog_typed.proofs.Splits.{gap-for-one, place-of-one}
 
 module _ {A : Type 0} (id : A → ℕ) where
@@ -42,7 +43,7 @@ module _ {A : Type 0} (id : A → ℕ) where
       let high = higher id (id x) xs in
       let from : All (λ z. id x < id z) high = higher-over (id x) xs in
       let upto : All (λ z. id x ≤ id z) (x ∷ high) = All-cons (λ z. id x ≤ id z) x high (omega arith) (All-weaker (λ z. id x < id z) (λ z. id x ≤ id z) (λ z h. omega arith) high from) in
-      pairs_append Ascend low (x ∷ high) (AllPairs-filter Ascend (λ y. nat_lt (id y) (id x)) xs up)
+      pairs-append Ascend low (x ∷ high) (AllPairs-filter Ascend (λ y. nat_lt (id y) (id x)) xs up)
       (AllPairs-cons Ascend x high from (AllPairs-filter Ascend (λ y. nat_lt (id x) (id y)) xs up))
       (λ y z has more.
       let under = All-contains (λ w. id w < id x) low y (lower-under (id x) xs) has in
@@ -51,7 +52,7 @@ module _ {A : Type 0} (id : A → ℕ) where
 
   pub ascend-without : (n : ℕ) (xs : List A) → AllPairs Ascend xs → AllPairs Ascend (without_one id n xs)
   ascend-without n xs up =
-      pairs_append Ascend (lower id n xs) (higher id n xs) (AllPairs-filter Ascend (λ y. nat_lt (id y) n) xs up) (AllPairs-filter Ascend (λ y. nat_lt n (id y)) xs up)
+      pairs-append Ascend (lower id n xs) (higher id n xs) (AllPairs-filter Ascend (λ y. nat_lt (id y) n) xs up) (AllPairs-filter Ascend (λ y. nat_lt n (id y)) xs up)
       (λ y z has more.
       let under = All-contains (λ w. id w < n) (lower id n xs) y (lower-under n xs) has in
       let over = All-contains (λ w. n < id w) (higher id n xs) z (higher-over n xs) more in

@@ -1,10 +1,10 @@
 -- Lists that grow, each two items related.
 use Rattle.std.specs.Prelude.{◌↔◌}
-use Rattle.std.proofs.Common.{◌≡◌, ◌<◌, ◌⊎◌, ◌∙◌, ℕ, suc, List, [], ◌∷◌, ◌++◌, get_or, map, AllPairs, Contains, ap, length, sym, subst, arith, inl, inr}
+use Rattle.std.proofs.Common.{◌≡◌, ◌<◌, ◌⊎◌, ◌∙◌, ℕ, List, [], ◌∷◌, ◌++◌, get_or, map, AllPairs, Contains, ap, length, sym, subst, arith, inl, inr}
 use Rattle.std.proofs.lemmas.List.{append-nil, append_assoc, get_or-map, length-map}
 use Rattle.std.proofs.lemmas.List.Elements.{Contains-append_cases, Contains-append_left, Contains-append_right, Contains-get_or}
 use Rattle.std.proofs.lemmas.List.Kept.{AllPairs-cons}
-use Rattle.rm_base.proofs.{Lists.{map_from}, Members.{in-front, behind, none-in, first-or-rest}}
+use Rattle.rm_base.proofs.{Lists.{map_from, pairs-append, pairs-head, pairs-tail}, Members.{none-in, first-or-rest}}
 use Rattle.rm_evidence.specs.Taking.{Extends}
 
 pub only-in : {X : Type 0} (x y : X) → Contains (x ∷ []) y → x ≡ y
@@ -12,25 +12,6 @@ only-in x y has = elim (first-or-rest x [] y has) [
   | inl same ↦ same
   | inr tail ↦ absurd (none-in y tail)
 ]
-
--- what holds of all pairs holds of the first and each later one, and of those behind the first
-pub pairs-head : {X : Type 0} (R : X → X → Type 0) (x : X) (xs : List X) (y : X) → AllPairs R (x ∷ xs) → Contains xs y → R x y
-pairs-head R x xs y all (k, inside, is) = subst (λ z. R x z) is (all 0 (suc k) y (omega arith) (omega arith))
-
-pub pairs-tail : {X : Type 0} (R : X → X → Type 0) (x : X) (xs : List X) → AllPairs R (x ∷ xs) → AllPairs R xs
-pairs-tail R x xs all = λ i j d less inside. all (suc i) (suc j) d (omega arith) (omega arith)
-
-pub pairs-append : {X : Type 0} (R : X → X → Type 0) (xs ys : List X) → AllPairs R xs → AllPairs R ys → ((x y : X) → Contains xs x → Contains ys y → R x y) → AllPairs R (xs ++ ys)
-pairs-append R [] ys first second cross = second
-pairs-append {X} R (x ∷ xs) ys first second cross =
-    AllPairs-cons R x (xs ++ ys) (λ k d inside. ahead (get_or (xs ++ ys) k d) (Contains-get_or (xs ++ ys) k d inside))
-    (pairs-append R xs ys (pairs-tail R x xs first) second (λ y z here there. cross y z (behind x xs y here) there))
-  where
-    ahead : (y : X) → Contains (xs ++ ys) y → R x y
-    ahead y has = elim (Contains-append_cases xs ys y has) [
-      | inl here ↦ pairs-head R x xs y first here
-      | inr there ↦ cross x y (in-front x xs) there
-    ]
 
 -- what holds of all pairs of items holds of what is made of them
 pub pairs-mapped : {X Y : Type 0} (f : X → Y) (R : X → X → Type 0) (S : Y → Y → Type 0) → ((x y : X) → R x y → S (f x) (f y)) → (xs : List X) → AllPairs R xs → AllPairs S (map f xs)

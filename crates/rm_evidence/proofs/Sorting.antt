@@ -3,8 +3,7 @@ use Rattle.std.specs.List.{AllByRecursion, IsDistinct, Sorted.{IsNonDecreasingBy
 use Rattle.std.proofs.Common.{◌≡◌, ◌≢◌, ◌<◌, ◌≤◌, ℕ, Bool, false, eqb, List, [], ◌∷◌, get_or, AllPairs, Contains, inl, inr, subst, arith}
 use Rattle.std.proofs.lemmas.{Bool.Decides.{nat_tests}, List.{Elements.{Contains-get_or}, Kept.{AllPairs-cons}}}
 use Rattle.std.proofs.lemmas.Map.Keys.{IsDistinct-IsPermutation}
-use Rattle.rm_base.proofs.Members.{in-front, behind, none-in, first-or-rest}
-use Rattle.rm_evidence.proofs.Extending.{pairs-head, pairs-tail}
+use Rattle.rm_base.proofs.{Members.{in-front, behind, none-in, first-or-rest}, Lists.{pairs-head, pairs-tail}}
 
 -- the id
 abbrev pub id-of : {A : Type 0} → ℕ × A → ℕ

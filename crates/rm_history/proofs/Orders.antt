@@ -1,9 +1,9 @@
 -- The order in which a history lists its changes.
 use Rattle.std.specs.Prelude.{◌↔◌}
-use Rattle.std.proofs.Common.{◌≡◌, ◌∙◌, ◌<◌, ◌⊎◌, ◌==◌, ◌&&◌, ◌||◌, nat_lt, inl, inr, ℕ, suc, Bool, true, false, cond, List, [], ◌∷◌, refl, ap, sym, subst, arith, slice_index_or, Contains, All, AllPairs, filter}
+use Rattle.std.proofs.Common.{◌≡◌, ◌∙◌, ◌<◌, ◌⊎◌, ◌==◌, ◌&&◌, ◌||◌, nat_lt, inl, inr, ℕ, Bool, true, false, cond, List, [], ◌∷◌, refl, ap, sym, subst, arith, slice_index_or, Contains, All, AllPairs, filter}
 use Rattle.std.proofs.lemmas.{Bool.{cases_Bool, Decides.{nat_tests}}, List.Elements.{Contains-get_or}}
 use Rattle.std.proofs.lemmas.List.Kept.{AllPairs-cons, AllPairs-filter}
-use Rattle.rm_base.{specs.declared.block.{Change.{Change}, Row.{Row}}, proofs.Lists.{filter_from, filter_to}}
+use Rattle.rm_base.{specs.declared.block.{Change.{Change}, Row.{Row}}, proofs.Lists.{filter_from, filter_to, pairs-head, pairs-tail}}
 use Rattle.rm_base.proofs.Members.{behind, first-or-rest, in-front, none-in}
 use Rattle.rm_history.specs.Artefacts.{Base, Level1, Log}
 use Rattle.rm_history.specs.Agrees.{BaseAgrees, ComesBefore, IsBelow, IsRow, Level1Agrees, LogAgrees, LogLists, is_of}
@@ -104,12 +104,6 @@ first-apart c d first same = lower-never c.inc d.inc same.inc (before-never c d 
 
 -- Lists in an order
 
-pairs-head : {X : Type 0} (R : X → X → Type 0) (x : X) (xs : List X) (y : X) → AllPairs R (x ∷ xs) → Contains xs y → R x y
-pairs-head R x xs y all (k, inside, is) = subst (R x) is (all 0 (suc k) y (omega arith) (omega arith))
-
-pairs-rest : {X : Type 0} (R : X → X → Type 0) (x : X) (xs : List X) → AllPairs R (x ∷ xs) → AllPairs R xs
-pairs-rest R x xs all i j d less inside = all (suc i) (suc j) d (omega arith) (omega arith)
-
 module _ {X : Type 0} (R : X → X → Type 0) (never : (x : X) → ¬ R x x) (goes : (x y z : X) → R x y → R y z → R x z) where
   one-head : (x y : X) (xs ys : List X) → AllPairs R (x ∷ xs) → AllPairs R (y ∷ ys) → Contains (y ∷ ys) x → Contains (x ∷ xs) y → x ≡ y
   one-head x y xs ys up down there back = elim (first-or-rest y ys x there) [
@@ -133,7 +127,7 @@ module _ {X : Type 0} (R : X → X → Type 0) (never : (x : X) → ¬ R x x) (g
   one-order (x ∷ xs) [] up down same = absurd (none-in x ((same x).0 (in-front x xs)))
   one-order (x ∷ xs) (y ∷ ys) up down same =
       let head : x ≡ y = one-head x y xs ys up down ((same x).0 (in-front x xs)) ((same y).1 (in-front y ys)) in
-      let rest : xs ≡ ys = one-order xs ys (pairs-rest R x xs up) (pairs-rest R y ys down) (λ z. (one-rest x y xs ys z up head (same z).0, one-rest y x ys xs z down (sym head) (same z).1)) in
+      let rest : xs ≡ ys = one-order xs ys (pairs-tail R x xs up) (pairs-tail R y ys down) (λ z. (one-rest x y xs ys z up head (same z).0, one-rest y x ys xs z down (sym head) (same z).1)) in
       ap (λ v. v ∷ xs) head ∙ ap (λ vs. y ∷ vs) rest
 
 -- The changes of a history in their order
@@ -208,12 +202,12 @@ put-ascends-by false c d ds is up apart ih =
 put-ascends : (c : Change) (ds : List Change) → AllPairs IsFirst ds → ((x : Change) → Contains ds x → ¬ SamePlace c x) → AllPairs IsFirst (put c ds)
 put-ascends c [] up apart = λ i j d less inside. absurd (omega arith)
 put-ascends c (d ∷ ds) up apart =
-    put-ascends-by (is_first d c) c d ds refl up apart (put-ascends c ds (pairs-rest IsFirst d ds up) (λ x held. apart x (behind d ds x held)))
+    put-ascends-by (is_first d c) c d ds refl up apart (put-ascends c ds (pairs-tail IsFirst d ds up) (λ x held. apart x (behind d ds x held)))
 
 ordered-ascends : (k : List Change) → AllPairs (λ c d. ¬ SamePlace c d) k → AllPairs IsFirst (in_order k)
 ordered-ascends [] apart = λ i j d less inside. absurd (omega arith)
 ordered-ascends (c ∷ cs) apart =
-    put-ascends c (in_order cs) (ordered-ascends cs (pairs-rest (λ c d. ¬ SamePlace c d) c cs apart))
+    put-ascends c (in_order cs) (ordered-ascends cs (pairs-tail (λ c d. ¬ SamePlace c d) c cs apart))
     (λ x held. pairs-head (λ c d. ¬ SamePlace c d) c cs x apart (ordered-from cs x held))
 
 -- The history in its order

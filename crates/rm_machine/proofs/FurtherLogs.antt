@@ -1,8 +1,7 @@
 -- A log that tells further.
 use Rattle.std.proofs.Common.{◌≡◌, ◌<◌, ◌≤◌, ◌++◌, ◌⊎◌, ◌^◌, inl, inr, [], ◌∷◌, sym, subst, arith, length, length-append, All, AllPairs}
 use Rattle.std.proofs.lemmas.List.Elements.{All-contains, All-push, All-weaker}
-use Rattle.rm_base.{specs.Numbers.{last_scn}, proofs.Members.{none-in, first-or-rest}}
-use Rattle.rm_catalog_typed.proofs.Keeping.{pairs_append}
+use Rattle.rm_base.{specs.Numbers.{last_scn}, proofs.{Members.{none-in, first-or-rest}, Lists.{pairs-append}}}
 use Rattle.rm_redo.specs.{LogFormat.{IsLogFile, IsLogRecord}, Logs.{IsBefore}, declared.log_file.LogFile.{LogFile}}
 use Rattle.rm_redo.specs.declared.online.LogRecord.{LogRecord}
 
@@ -35,7 +34,7 @@ log-further l m is dbid inc thread sequence first next last records =
       ];
       ascend = elim records [
         | inl same ↦ subst (AllPairs IsBefore) (sym same) is.ascend
-        | inr more ↦ subst (AllPairs IsBefore) (sym more.1.records) (pairs_append IsBefore l.records (more.0 ∷ []) is.ascend (single more.0) (λ x y has other.
+        | inr more ↦ subst (AllPairs IsBefore) (sym more.1.records) (pairs-append IsBefore l.records (more.0 ∷ []) is.ascend (single more.0) (λ x y has other.
             let under : x.scn < l.next = (All-contains (IsLogRecord l.first l.next) l.records x is.records has).scn.1 in
             elim (first-or-rest more.0 [] y other) [
               | inl same ↦ inl (subst (λ z. x.scn < z.scn) same (omega (arith, under, more.1.after)))

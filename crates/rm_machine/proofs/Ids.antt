@@ -1,10 +1,10 @@
 -- Ids of records, ascending: each can be one, and they can be counted.
 use Rattle.std.proofs.Common.{◌≡◌, ◌≤◌, ◌<◌, ◌+◌, ◌^◌, ℕ, zero, suc, List, [], ◌∷◌, Some, subst, arith, length, get_or, All, AllPairs, Contains}
 use Rattle.std.proofs.lemmas.List.Elements.{Contains-get_or, All-contains}
-use Rattle.rm_base.proofs.Members.{behind, in-front}
+use Rattle.rm_base.proofs.{Members.{behind, in-front}, Lists.{pairs-head, pairs-tail}}
 use Rattle.rm_catalog.specs.declared.record.{Record.{Record}, LogEntry.{LogEntry}, PieceEntry.{PieceEntry}, SetEntry.{SetEntry}}
 use Rattle.rm_catalog.specs.declared.record.Record.TheVariants as kind
-use Rattle.rm_evidence.{specs.Names.{object_id}, proofs.Extending.{pairs-head, pairs-tail}}
+use Rattle.rm_evidence.specs.Names.{object_id}
 use Rattle.rm_catalog_typed.specs.{Facts.{IsTypedCatalog}, TypedCatalog.{TypedCatalog, records_of}}
 use Rattle.rm_catalog_typed.proofs.Members.{log-in, piece-in, set-in}
 

@@ -1,8 +1,7 @@
 -- Of objects that ascend by id, at most one has an id.
 use Rattle.std.proofs.Common.{◌≡◌, ◌∙◌, ◌+◌, ◌<◌, ◌==◌, ◌++◌, inl, inr, ℕ, List, [], ◌∷◌, Option, Some, None, cond, refl, ap, sym, arith, filter, find, map, AllPairs}
 use Rattle.std.proofs.lemmas.{Bool.{cases_Bool, eqb-true, Decides.{nat_tests}}, List.{append-nil}}
-use Rattle.rm_base.proofs.Lists.{filter_none}
-use Rattle.rm_evidence.proofs.Extending.{pairs-tail}
+use Rattle.rm_base.proofs.Lists.{filter_none, pairs-tail}
 
 -- what is found, as a list
 abbrev pub listed : {A : Type 0} → Option A → List A

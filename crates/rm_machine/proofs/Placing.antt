@@ -1,9 +1,8 @@
 -- What stands in place after datafiles were put over it.
 use Rattle.std.proofs.Common.{◌≡◌, ◌<◌, ◌-◌, ◌∙◌, ◌⊎◌, inl, inr, ℕ, zero, suc, List, [], ◌∷◌, Option, Some, refl, ap, sym, subst, arith, length, map, slice_get, slice_set, AllPairs, Contains}
 use Rattle.std.proofs.lemmas.List.{length-set}
-use Rattle.rm_base.proofs.{Members.{behind, first-or-rest, in-front, none-in}, Slots.{get-set}}
+use Rattle.rm_base.proofs.{Members.{behind, first-or-rest, in-front, none-in}, Slots.{get-set}, Lists.{pairs-head, pairs-tail}}
 use Rattle.rm_blocks.specs.File.{File}
-use Rattle.rm_evidence.proofs.Extending.{pairs-head, pairs-tail}
 use Rattle.rm_machine.specs.Recovery.{put_over}
 
 abbrev pub number : File → ℕ

@@ -4,9 +4,10 @@ use Rattle.std.proofs.Common.{◌≡◌, ◌≢◌, ◌<◌, ◌≤◌, ◌+◌,
 use Rattle.std.proofs.lemmas.List.{get_or-map, length-map, Edits.{length-remove}}
 use Rattle.std.proofs.lemmas.List.Elements.{All-contains, All-head, All-tail, Contains-append_left, Contains-get_or}
 use Rattle.rm_base.{specs.declared.kinds.Kind.{Kind, TheVariants.{Full, Level0, Level1, Place}}, proofs.Keyed.{same_item}}
+use Rattle.rm_base.proofs.Lists.{pairs-head, pairs-tail}
 use Rattle.rm_backup.specs.{Records.{pieces}, declared.renewing.Renewed.{Renewed}}
 use Rattle.rm_catalog.specs.{Objects.{FitsKind}, declared.record.PieceEntry.{PieceEntry}}
-use Rattle.rm_evidence.{specs.{Objects.{piece_entry}, declared.evidence.Evidence.{Evidence}}, proofs.Extending.{pairs-head, pairs-tail}}
+use Rattle.rm_evidence.specs.{Objects.{piece_entry}, declared.evidence.Evidence.{Evidence}}
 use Rattle.rm_catalog_typed.specs.{LedgerFacts.{IsPieceEntry}, Changes.{with_new_piece, without_one, without_piece}, Fitting.{FitsNewPiece}}
 use Rattle.rm_catalog_typed.{specs.TypedCatalog.{records_of}, proofs.{Fitted.{many}, Records.{pieces-told}, Splits.{place-of-one}}}
 use Rattle.rm_piece.specs.declared.piece.Piece.{Piece}

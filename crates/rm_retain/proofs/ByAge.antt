@@ -6,8 +6,7 @@ use Rattle.std.proofs.lemmas.Bool.{cases_lt, cases_order, eq-eqb, eqb-true, fals
 use Rattle.std.proofs.lemmas.{Bool.Decides.{nat_tests}, List.{Elements.{Contains-get_or}, Kept.{AllPairs-cons}}}
 use Rattle.std.proofs.lemmas.List.{Sorted.{length_permutation, sum_by-IsPermutation}, Sums.{length-filter, sum_by-cons}}
 use Rattle.std.proofs.lemmas.Option.{get_or_from_slice_get, same_Some}
-use Rattle.rm_base.proofs.{Lists.{filter_to, find_cases, find_none}, Members.{in-front, behind}}
-use Rattle.rm_evidence.proofs.Extending.{pairs-head, pairs-tail}
+use Rattle.rm_base.proofs.{Lists.{filter_to, find_cases, find_none, pairs-head, pairs-tail}, Members.{in-front, behind}}
 use Rattle.rm_retain.specs.{Chosen.{is_newer, rank, newest, nth_newest, IsByAge, is_among}, declared.copies.Backup.{Backup}}
 use Rattle.rm_retain.proofs.Ranks.{IsRising, rising_filter, filter_shorter, none_kept}
 use Rattle.rm_retain.proofs.SecondTime.{never_of, above_of, rank_rises, rising_one}

@@ -3,9 +3,8 @@ use Rattle.std.proofs.Common.{◌≡◌, ◌<◌, ◌≤◌, ◌∙◌, ◌⊎�
 use Rattle.std.proofs.lemmas.{Bool.{and_parts, cases_Bool, ne_eqb, eq-eqb, eqb-true, false_from_ne_true}, List.Elements.{Contains-get_or}}
 use Rattle.std.proofs.lemmas.List.{Kept.{AllPairs-cons, AllPairs-filter}, Sums.{length-filter, count_by-le-length}}
 use Rattle.rm_base.{specs.declared.kinds.Policy.{Policy}, proofs.Members.{in-front, behind, none-in, first-or-rest}}
-use Rattle.rm_base.proofs.Lists.{filter_from, filter_to, map_from}
+use Rattle.rm_base.proofs.Lists.{filter_from, filter_to, map_from, pairs-head, pairs-tail}
 use Rattle.rm_history.specs.{Tree.{is_within}, declared.tree.Incarnation.{Incarnation}}
-use Rattle.rm_evidence.proofs.Extending.{pairs-head, pairs-tail}
 use Rattle.rm_retain.specs.{Chosen.{is_before_window, is_candidate, Ascend, AscendById}, declared.copies.Backup.{Backup}}
 
 -- x stands before y: its id is lower, or in the same set its datafile

@@ -2,10 +2,9 @@
 use Rattle.std.specs.{List.{cons_option}, Option.{option_map, option_map_or}}
 use Rattle.std.proofs.Common.{◌≡◌, ◌≢◌, ◌<◌, ◌≤◌, ◌+◌, ◌-◌, ◌∙◌, ◌++◌, ◌&&◌, not, inl, inr, ℕ, zero, suc, List, [], ◌∷◌, Option, Some, None, Bool, true, false, cond, refl, ap, sym, subst, arith, length, length-append, AllPairs, Contains, slice_get}
 use Rattle.std.proofs.lemmas.List.{Elements.{Contains-append_cases, Contains-append_left, Contains-append_right}, Kept.{AllPairs-cons}}
-use Rattle.rm_base.proofs.Members.{behind, in-front, none-in, first-or-rest}
+use Rattle.rm_base.proofs.{Members.{behind, in-front, none-in, first-or-rest}, Lists.{pairs-append}}
 use Rattle.rm_blocks.specs.File.{File}
 use Rattle.rm_evidence.specs.Gathered.{placed_piece}
-use Rattle.rm_catalog_typed.proofs.Keeping.{pairs_append}
 use Rattle.rm_machine.specs.{Saving.{SitePart, file_parts, log_parts, parts_of}, Sound.{IsSound}}
 use Rattle.rm_machine.{specs.{State.{ledger, counted, is_lost, is_online}, declared.state.State.{State}}, proofs.Fitting.{stands-valid}}
 use Rattle.rm_machine.proofs.{Standing.{each-in}, Threads.{online-parts, thread-in}}
@@ -172,7 +171,7 @@ of-thread s t l p is = let same = (of-kept (l.is_there && not l.is_lost) (part_o
 pub parts-apart : (s : State) → AllPairs IsOther (parts_of s)
 parts-apart s =
     subst (AllPairs IsOther) (sym (parts-made s))
-    (pairs_append IsOther (of_files s) (of_logs s)
+    (pairs-append IsOther (of_files s) (of_logs s)
     (apart (of_place s) IsOther (λ n m x y p q less one two same. absurd (omega (arith, less, same, of-number s n x p one, of-number s m y q two))) 1 s.instance.place)
     (apart (of_log s) IsOther (λ n m x y p q less one two same thread. absurd (omega (arith, less, thread, (of-thread s n x p one).1, (of-thread s m y q two).1))) 1 s.instance.logs.threads)
     (λ p q one two same.
