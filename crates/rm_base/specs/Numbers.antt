@@ -1,5 +1,9 @@
--- The greatest SCN and the last moment.
+-- The greatest SCN, the last moment and the most bytes of an object.
 use Rattle.std.specs.Prelude.{ℕ}
+
+-- the most bytes of an object, 2^28
+abbrev pub most_bytes : ℕ
+most_bytes = 268435456
 
 -- 2^48 - 1
 abbrev pub last_scn : ℕ

@@ -26,7 +26,9 @@ pub use kinds::{Bad, Class, Kind, Policy, Status};
 pub use latest::comes_first;
 pub use mem_store::{MemClock, MemStore, StoreFailing};
 pub use memory::{Failing, MemSink, MemSource};
-pub use numbers::{BlockNo, FileNo, IncNo, LAST_MOMENT, LAST_SCN, Moment, Scn, ThreadNo};
+pub use numbers::{
+    BlockNo, FileNo, IncNo, LAST_MOMENT, LAST_SCN, MOST_BYTES, Moment, Scn, ThreadNo,
+};
 pub use outside::{Sink, Source};
 pub use refusal::{Absent, Limit, Refusal, ThreadState, Unknown};
 pub use seq::Seq;

@@ -18,6 +18,9 @@ pub type ThreadNo = u8;
 /// Seconds since 1970-01-01 UTC: at most [`LAST_MOMENT`].
 pub type Moment = u64;
 
+/// The most bytes of an object, 2^28.
+pub const MOST_BYTES: u64 = 268_435_456;
+
 /// The greatest SCN, 2^48 - 1.
 pub const LAST_SCN: Scn = 281_474_976_710_655;
 

@@ -1,13 +1,9 @@
 -- What a log and a piece obey in a list of records.
 use Rattle.std.specs.Prelude.{◌≡◌, ◌≢◌, ℕ, ◌<◌, ◌≤◌, ◌==◌, zero, suc, Bool, false, ◌&&◌, ◌||◌, IsTrue, All, List, [], ◌∷◌, IsSomeAnd, length, nat_le, if◌then◌else◌}
 use Rattle.std.specs.{List.{list_all}, Option.{option_map_or}}
-use Rattle.rm_base.specs.declared.kinds.Kind.{Kind, TheVariants.{Level1, Place}}
+use Rattle.rm_base.specs.{Numbers.{most_bytes}, declared.kinds.Kind.{Kind, TheVariants.{Level1, Place}}}
 use Rattle.rm_catalog.specs.{Keys.{IsThere, base, incarnation, datafile}, declared.record.IncarnationEntry.{IncarnationEntry}}
 use Rattle.rm_catalog.specs.declared.record.{DatafileEntry.{DatafileEntry}, LogEntry.{LogEntry}, PieceEntry.{PieceEntry}, Record.{Record}}
-
--- the most bytes of an object, 2^28
-abbrev pub most_bytes : ℕ
-most_bytes = 268435456
 
 -- the kinds of records whose ids are those of objects: logs, pieces, the parts of a saved site, and sets
 abbrev pub id_kinds : List ℕ

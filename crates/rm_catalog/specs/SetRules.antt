@@ -1,8 +1,8 @@
 -- What a backup set obeys in a list of records.
 use Rattle.std.specs.Prelude.{◌≡◌, ℕ, ◌<◌, ◌≤◌, List, IsSomeAnd, length, All, AllPairs}
-use Rattle.rm_base.specs.declared.kinds.Kind.{Kind, TheVariants.{Level1, Place}}
-use Rattle.rm_catalog.specs.{Keys.{datafile, incarnation}, Objects.{IdRule, IsTag, most_bytes, owner_in}}
-use Rattle.rm_catalog.specs.declared.record.{DatafileEntry.{DatafileEntry}, SetEntry.{SetEntry}, SetPart.{SetPart}, Record.{Record}}
+use Rattle.rm_base.specs.{Numbers.{most_bytes}, declared.kinds.Kind.{Kind, TheVariants.{Level1, Place}}}
+use Rattle.rm_catalog.specs.{Keys.{datafile, incarnation}, Objects.{IdRule, IsTag, owner_in}, declared.record.DatafileEntry.{DatafileEntry}}
+use Rattle.rm_catalog.specs.declared.record.{SetEntry.{SetEntry}, SetPart.{SetPart}, Record.{Record}}
 
 -- A level 1 begins at an SCN up to the checkpoint, a full part and a level 0 begin at 0. A datafile
 -- in place is no part.

@@ -5,10 +5,7 @@ ghost use Rattle.rm_catalog.specs.Objects.{IdRule, IsFree, IsRange, LogRule, own
 
 use crate::find::{base, datafile, incarnation, is_there};
 use crate::record::{DatafileEntry, LogEntry, PieceEntry, Record};
-use rm_base::{IncNo, Kind, Scn, ThreadNo};
-
-/// The most bytes of an object, 2^28.
-pub const MOST_BYTES: u64 = 268_435_456;
+use rm_base::{IncNo, Kind, MOST_BYTES, Scn, ThreadNo};
 
 // The kinds of records whose ids are those of objects: logs, pieces, the parts of a saved site, and sets.
 const ID_KINDS: [u8; 4] = [4, 5, 7, 9];

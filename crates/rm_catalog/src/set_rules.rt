@@ -4,9 +4,9 @@ ghost use Rattle.rm_catalog.specs.Keys.{InOrder, datafile};
 ghost use Rattle.rm_catalog.specs.SetRules.{FitsPartKind, FitsSetFile, IsBeforePart, PartsRule, SetPartRule, SetRule};
 
 use crate::find::datafile;
-use crate::objects::{MOST_BYTES, ends_within, id_obeys, is_tag, owner_in};
+use crate::objects::{ends_within, id_obeys, is_tag, owner_in};
 use crate::record::{Record, SetEntry, SetPart};
-use rm_base::{Kind, Scn};
+use rm_base::{Kind, MOST_BYTES, Scn};
 
 /// The most datafiles of a set.
 pub const MOST_PARTS: usize = 64;

@@ -1,7 +1,7 @@
 -- What is true of each typed catalog: its records are valid, and these are the rules in its own words.
 use Rattle.std.specs.Prelude.{◌≡◌, ◌≢◌, ◌<◌, ◌≤◌, Contains, IfSome, All, AllPairs, length}
-use Rattle.rm_catalog.specs.{Objects.{most_bytes}, declared.record.{PartEntry.{PartEntry}, LogEntry.{LogEntry}, PieceEntry.{PieceEntry}}}
-use Rattle.rm_catalog.specs.declared.record.SetEntry.{SetEntry}
+use Rattle.rm_base.specs.Numbers.{most_bytes}
+use Rattle.rm_catalog.specs.declared.record.{PartEntry.{PartEntry}, LogEntry.{LogEntry}, PieceEntry.{PieceEntry}, SetEntry.{SetEntry}}
 use Rattle.rm_history.specs.Tree.{IsThere}
 use Rattle.rm_catalog_typed.specs.{LedgerFacts.{IsLedger}, Ledger.{Ledger}, TypedCatalog.{TypedCatalog, Saved}}
 

@@ -1,7 +1,7 @@
 -- What is true of each ledger: its records are valid, and these are the rules in its own words.
 use Rattle.std.specs.Prelude.{◌≡◌, ◌≢◌, ℕ, ◌-◌, ◌<◌, ◌≤◌, Some, List, All, AllPairs, Contains, length, slice_get, sum_by}
-use Rattle.rm_base.specs.{Numbers.{last_scn, last_moment}, declared.block.Mark.{Mark}}
-use Rattle.rm_catalog.specs.{Facts.{IsPolicy}, Objects.{most_bytes, FitsKind, FitsRows, IsTag}, SetRules.{FitsPartKind, IsBeforePart}}
+use Rattle.rm_base.specs.{Numbers.{last_scn, last_moment, most_bytes}, declared.block.Mark.{Mark}}
+use Rattle.rm_catalog.specs.{Facts.{IsPolicy}, Objects.{FitsKind, FitsRows, IsTag}, SetRules.{FitsPartKind, IsBeforePart}}
 use Rattle.rm_catalog.specs.declared.record.{BaseEntry.{BaseEntry}, LogEntry.{LogEntry}, PieceEntry.{PieceEntry}, SetEntry.{SetEntry}}
 use Rattle.rm_catalog.specs.declared.record.SetPart.{SetPart}
 use Rattle.rm_history.specs.{Tree.{IsThere, parent_of, reset_of, end_of, owner}, declared.tree.Incarnation.{Incarnation}}

@@ -1,7 +1,8 @@
 -- How many records a sound state has, and how many bytes.
 use Rattle.std.{specs.Prelude.{sum_by}, proofs.{Common.{◌≤◌, ◌^◌, arith, length, All}, lemmas.List.Elements.{All-weaker}}}
 use Rattle.std.proofs.lemmas.List.Sums.{sum_by-le}
-use Rattle.rm_catalog.specs.{Objects.{most_bytes}, declared.record.{LogEntry.{LogEntry}, PieceEntry.{PieceEntry}, SetEntry.{SetEntry}}}
+use Rattle.rm_base.specs.Numbers.{most_bytes}
+use Rattle.rm_catalog.specs.declared.record.{LogEntry.{LogEntry}, PieceEntry.{PieceEntry}, SetEntry.{SetEntry}}
 use Rattle.rm_catalog_typed.{specs.{LedgerFacts.{IsLedger, IsLogEntry, IsPieceEntry, IsSetEntry}, Ledger.{Ledger}}, proofs.Fitted.{many}}
 
 pub logs-small : (l : Ledger) → IsLedger l → sum_by (λ e. e.size) l.logs ≤ 2 ^ 44

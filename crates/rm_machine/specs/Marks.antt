@@ -1,7 +1,7 @@
 -- The marks that statements write, and the room for records, bytes and ids.
 use Rattle.std.specs.Prelude.{ℕ, ◌+◌, ◌*◌, ◌&&◌, ◌++◌, nat_lt, if◌then◌else◌, is_none, Bool, Option, Some, None, List, [], ◌∷◌, length, map, sum_by}
-use Rattle.rm_base.specs.declared.{block.Mark.{Mark}, refusal.{Refusal.{Refusal, TheVariants.{Rm11}}, Limit.TheVariants.{ObjectIds}}}
-use Rattle.rm_catalog.specs.Objects.{most_bytes}
+use Rattle.rm_base.specs.{Numbers.{most_bytes}, declared.{block.Mark.{Mark}, refusal.Refusal.{Refusal, TheVariants.{Rm11}}}}
+use Rattle.rm_base.specs.declared.refusal.Limit.TheVariants.{ObjectIds}
 use Rattle.rm_history.specs.{World.{blocks_of}, declared.world.World.{World}}
 use Rattle.rm_catalog_typed.specs.{Ledger.{Ledger, ledger_records}, Changes.{with_end_at}, TypedCatalog.{TypedCatalog}, Worlds.{world_of}}
 use Rattle.rm_machine.specs.{State.{ledger, current_of, now_of}, declared.state.State.{State}}

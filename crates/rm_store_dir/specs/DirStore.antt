@@ -8,10 +8,6 @@ use Rattle.rm_store_dir.specs.declared.store.DirStore.{DirStore}
 abbrev pub is_object : List ℕ → Bool
 is_object name = nat_le 1 (length name) && nat_le (length name) 64 && list_all is_word_byte name
 
--- the most bytes of an object
-abbrev pub most_bytes : ℕ
-most_bytes = 268435456
-
 -- the files whose names are objects'
 abbrev pub objects_of : Held → Held
 objects_of files name = if is_object name then files name else None

@@ -4,8 +4,8 @@ ghost use Rattle.rm_base.specs.Store.{Ascends};
 
 use crate::folder::Folder;
 use crate::lock::{Last, claim, clear, hold, last_used, make};
-use crate::names::{MOST_BYTES, is_object};
-use rm_base::{Seq, Text};
+use crate::names::is_object;
+use rm_base::{MOST_BYTES, Seq, Text};
 use std::alloc::AllocError;
 use std::collections::BTreeMap;
 use std::fs::{self, DirEntry, File, Metadata, OpenOptions};

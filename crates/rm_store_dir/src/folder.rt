@@ -1,7 +1,7 @@
 //! How an object gets its name: written beside it, and then renamed.
 ghost use Rattle.std.specs.Prelude.{◌≡◌, ◌≢◌, ◌≤◌, ◌∷◌, [], false, true, Some, None, length, IfOk, IfSome, IsErr, OnOk, OnErr};
-ghost use Rattle.rm_base.specs.Store.{Held, Both, HasNow, SameBut, Ascends, AreTheNames};
-ghost use Rattle.rm_store_dir.specs.DirStore.{most_bytes, objects_of};
+ghost use Rattle.rm_base.specs.{Store.{Held, Both, HasNow, SameBut, Ascends, AreTheNames}, Numbers.{most_bytes}};
+ghost use Rattle.rm_store_dir.specs.DirStore.{objects_of};
 ghost use Rattle.rm_store_dir.specs.Folder.{SameButBoth, IsWhole, IsMoved, MayHave, KeepsBut, MayMove, IsDurable, MaySettle};
 
 use rm_base::{Seq, Text};

@@ -10,5 +10,5 @@ pub mod store;
 pub use dir::Dir;
 pub use folder::{Folder, put_whole, remove_whole};
 pub use lock::Last;
-pub use names::{MOST_BYTES, is_object};
+pub use names::is_object;
 pub use store::{DirStore, Failure};

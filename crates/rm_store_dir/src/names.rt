@@ -6,9 +6,6 @@ ghost use Rattle.rm_store_dir.specs.DirStore.{is_object};
 use rm_lang_token::is_word_byte;
 use std::alloc::{AllocError, Global};
 
-/// The most bytes of an object, 2^28.
-pub const MOST_BYTES: u64 = 268_435_456;
-
 // What the name begins with under which the bytes of an object are written first.
 const BESIDE: &str = ".rman-new-";
 

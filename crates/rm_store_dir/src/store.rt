@@ -1,13 +1,13 @@
 //! The objects of a folder.
 ghost use Rattle.std.specs.Prelude.{◌≡◌, ◌≢◌, ◌<◌, ◌≤◌, ◌∷◌, [], true, length, IsTrue, IsErr, Some, None, IfOk, IfSome, OnOk, IsErrOf};
-ghost use Rattle.rm_base.specs.{Outside.{Rose}, Store.{Both, HasNow}, declared.store.StoreFail.TheVariants.{Failed}};
-ghost use Rattle.rm_store_dir.specs.{DirStore.{is_object, most_bytes, objects_of, KeepsOthers}, Folder.{MayHave}};
+ghost use Rattle.rm_base.specs.{Outside.{Rose}, Store.{Both, HasNow}, Numbers.{most_bytes}, declared.store.StoreFail.TheVariants.{Failed}};
+ghost use Rattle.rm_store_dir.specs.{DirStore.{is_object, objects_of, KeepsOthers}, Folder.{MayHave}};
 
 use crate::dir::Dir;
 use crate::folder::{Folder, put_whole, remove_whole};
 use crate::lock::Last;
-use crate::names::{MOST_BYTES, beside, is_object};
-use rm_base::{Count, Seq, Store, StoreFail, Text};
+use crate::names::{beside, is_object};
+use rm_base::{Count, MOST_BYTES, Seq, Store, StoreFail, Text};
 use std::alloc::Global;
 use std::io::{self, ErrorKind};
 
