@@ -2,3 +2,4 @@ pub mod History
 pub mod Parts
 pub mod Passes
 pub mod Ruled
+pub mod Touched

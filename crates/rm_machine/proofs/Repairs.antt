@@ -8,8 +8,8 @@ use Rattle.rm_channel.specs.{Jobs.{Deed, wrote, wrote_of}, Made.{AreThese, deed,
 use Rattle.rm_history.specs.{Evidence.{Evidence}, declared.world.World.{World}}
 use Rattle.rm_lang_statement.specs.declared.command.WriteForm.{WriteForm}
 use Rattle.rm_live.specs.{Ruled.{one_if}, declared.history.{Answer.{Answer, TheVariants.{Found, Mended, Wrote}}, Call.{Call}}}
-use Rattle.rm_live.specs.declared.history.{Call.TheVariants.{Mend, Read, Write}, Event.{Event}, LiveFault.{LiveFault}}
-use Rattle.rm_machine.specs.{Asked.{lists_from}, BlockRecover.{mends_of}, Repair.{is_mend_of, is_mended}}
+use Rattle.rm_live.specs.{Touched.{is_mend_of, is_mended}, declared.history.{Call.TheVariants.{Mend, Read, Write}, Event.{Event}, LiveFault.{LiveFault}}}
+use Rattle.rm_machine.specs.{Asked.{lists_from}, BlockRecover.{mends_of}}
 use Rattle.rm_machine.proofs.{Deeds.{counted, had, row-same, same_row, writes-asked}, Walk.{IsAsked}, Mending.{AreDue, IsDue, Patch}}
 use Rattle.rm_plan.specs.Blocks.{AreToldRows, IsToldRow}
 

@@ -1,30 +1,11 @@
 -- What the history says of a BLOCKRECOVER: repair while writers run.
-use Rattle.std.specs.{Prelude.{ℕ, ◌≡◌, ◌<◌, ◌==◌, ◌&&◌, ◌||◌, Bool, true, false, Some, List, ◌++◌}, List.{list_any}}
+use Rattle.std.specs.Prelude.{ℕ, ◌≡◌, ◌<◌, ◌&&◌, true, false, Some, List, ◌++◌}
 use Rattle.rm_base.specs.declared.block.Change.{Change}
 use Rattle.rm_history.specs.State.{state}
 use Rattle.rm_lang_statement.specs.declared.command.RepairForm.{RepairForm}
-use Rattle.rm_live.specs.{History.{IsLegal}, declared.history.{Call.{Call, TheVariants.{Mend, Read, Write}}, Event.{Event}}}
+use Rattle.rm_live.specs.{History.{IsLegal}, Touched.{is_mended, is_touched}, declared.history.Event.{Event}}
 use Rattle.rm_machine.specs.{BlockRecover.{asks_for, repair_begun, without_mended}, Damage.{has_block}, Dump.{placed_row}, Effect.{Effect}}
 use Rattle.rm_machine.specs.{Events.{after_events, changes_of, opening}, State.{current_of, now_of, world}, declared.state.State.{State}}
-
--- the call mends block b of datafile f
-abbrev pub is_mend_of : ℕ → ℕ → Call → Bool
-is_mend_of f b (Read g c) = false
-is_mend_of f b (Write t g c content) = false
-is_mend_of f b (Mend g row) = (g == f) && (row.block == b)
-
--- the call writes it
-abbrev pub is_write_of : ℕ → ℕ → Call → Bool
-is_write_of f b (Read g c) = false
-is_write_of f b (Write t g c content) = (g == f) && (c == b)
-is_write_of f b (Mend g row) = false
-
--- one of the events mends it, and one mends or writes it
-abbrev pub is_mended : List Event → ℕ → ℕ → Bool
-is_mended es f b = list_any (λ e. is_mend_of f b e.call) es
-
-abbrev pub is_touched : List Event → ℕ → ℕ → Bool
-is_touched es f b = list_any (λ e. is_mend_of f b e.call || is_write_of f b e.call) es
 
 -- From the state s, behind these events: a block that was mended is what the history of that turn has at `now`, and a block that was
 -- neither mended nor written is what it was.

@@ -9,10 +9,10 @@ use Rattle.rm_blocks.specs.File.{File, put}
 use Rattle.rm_history.{specs.State.{state}, proofs.Worlds.{file-there}}
 use Rattle.rm_lang_statement.specs.declared.command.WriteForm.{WriteForm}
 use Rattle.rm_live.specs.{History.{IsLegal, IsRight}, declared.history.{Answer.{Answer, TheVariants.{Found, Mended, Wrote}}, Call.{Call}}}
-use Rattle.rm_live.specs.declared.history.{Call.TheVariants.{Mend, Read, Write}, Event.{Event}}
+use Rattle.rm_live.specs.{Touched.{is_mend_of, is_mended, is_touched, is_write_of}, declared.history.{Call.TheVariants.{Mend, Read, Write}, Event.{Event}}}
 use Rattle.rm_machine.specs.{Damage.{has_block}, Dump.{placed_row}, Effect.{Made}}
 use Rattle.rm_machine.specs.Events.{after_event, after_events, change_by, changes_of, opening, with_placed_row, write_form}
-use Rattle.rm_machine.specs.{Machine.{HistoryFits, IsBorneOut, SoundRowsAre}, Repair.{is_mend_of, is_mended, is_touched, is_write_of}}
+use Rattle.rm_machine.specs.Machine.{HistoryFits, IsBorneOut, SoundRowsAre}
 use Rattle.rm_machine.specs.{Write.{change_of, with_write}, State.{current_of, now_of, placed, world}, declared.state.State.{State}}
 use Rattle.rm_machine.proofs.{BackupAccepted.{CanBeWritten}, Damaged.{placed-put, placed-put_other, with_list}}
 use Rattle.rm_machine.proofs.{Mending.{AreDue, CanMend, IsDue, IsPatch, Patch, can-event, row_of}, Places.{placed-is}}

@@ -14,12 +14,12 @@ use Rattle.rm_history.specs.Evidence as known
 use Rattle.rm_lang_statement.specs.declared.command.{BackupForm.{BackupForm}, Command.TheVariants.{BlockRecover}, NamedBlocks.{NamedBlocks}}
 use Rattle.rm_lang_statement.specs.declared.command.{RepairForm.{RepairForm}, WriteForm.{WriteForm}}
 use Rattle.rm_report.specs.declared.line.Line.{Line}
-use Rattle.rm_live.specs.{History.{IsLegal, after}, Parts.{Parts}, declared.history.Event.{Event}}
+use Rattle.rm_live.specs.{History.{IsLegal, after}, Parts.{Parts}, Touched.{is_mended}, declared.history.Event.{Event}}
 use Rattle.rm_plan.specs.Blocks.{AreToldRows}
 use Rattle.rm_machine.specs.{Asked.{asked}, BlockRecover.{MendsBlocks, MissesBlock, asks_for, blocks_mended, repair_begun, without_mended}}
 use Rattle.rm_machine.specs.{Damage.{IsInPlace, has_block}, Effect.{Effect, Made, done, no_effect}}
 use Rattle.rm_machine.specs.{Events.{after_events, changes_of, opening}, Machine.{IsBorneOut}, Recovery.{IsAtHand, in_place}}
-use Rattle.rm_machine.specs.{Repair.{RepairsSoFar, RepairsTruly, is_mended}, Sound.{IsSound}, Step.{IsDone}}
+use Rattle.rm_machine.specs.{Repair.{RepairsSoFar, RepairsTruly}, Sound.{IsSound}, Step.{IsDone}}
 use Rattle.rm_machine.specs.{State.{current_of, ledger, now_of, placed, world}, declared.state.State.{State}}
 use Rattle.rm_machine.proofs.{BackupMarks.{borne-marked, marked-same}, Damaged.{with_list}, Fitting.{place-fits}, Kept.{stand-same}}
 use Rattle.rm_machine.proofs.{Later.{borne-beside}, Mending.{AreDue, CanMend, Patch, can-events}, Places.{placed-is}, Putting.{sound-fewer}}

@@ -6,11 +6,12 @@ use Rattle.std.proofs.lemmas.Slice.Eq.{bytes_eq-Decides}
 use Rattle.rm_base.{specs.declared.block.Row.{Row}, proofs.{Members.{behind, in-front}, Slots.{get-set_other, get-set_same}}}
 use Rattle.rm_blocks.specs.File.{File, put}
 use Rattle.rm_live.specs.{History.{IsLegal, IsRight, after, fold_of}, Parts.{Parts, row_at, with_put}, Ruled.{one_if, total}}
+use Rattle.rm_live.specs.Touched.{is_mend_of, is_mended, is_touched, is_write_of}
 use Rattle.rm_live.specs.declared.history.{Answer.{Answer, TheVariants.{Found, Mended, Wrote}}, Call.{Call}}
 use Rattle.rm_live.specs.declared.history.{Call.TheVariants.{Mend, Read, Write}, Event.{Event}}
 use Rattle.rm_channel.specs.{Jobs.{Deed, writes, writes_of}, Made.{AreBegun, deed}, declared.jobs.WriteJob.{WriteJob}}
 use Rattle.rm_channel.proofs.{Mine.{total-append}, Rooms.{off-by}, Steps.{fold-append, legal-behind}, There.{there-after, there-fold}}
-use Rattle.rm_repair.specs.Mended.{HasBlock, RowsAreBehind, is_mend_of, is_mended, is_named, is_touched, is_write_of, mends}
+use Rattle.rm_repair.specs.Mended.{HasBlock, RowsAreBehind, is_named, mends}
 use Rattle.rm_repair.specs.declared.jobs.MendJob.{MendJob}
 
 -- One row

@@ -1,11 +1,11 @@
 -- Mends of blocks, while others write.
-use Rattle.std.specs.Prelude.{◌≡◌, ◌≤◌, ◌<◌, ◌+◌, ◌==◌, ◌&&◌, ◌||◌, ℕ, Bool, Option, Some, Result, Ok, IfOk, IsSome, List, [], ◌∷◌, ◌++◌, All, Contains, Vec, length, map, true, false}
+use Rattle.std.specs.Prelude.{◌≡◌, ◌≤◌, ◌<◌, ◌+◌, ◌==◌, ◌&&◌, ℕ, Bool, Option, Some, Result, Ok, IfOk, IsSome, List, [], ◌∷◌, ◌++◌, All, Contains, Vec, length, map, true, false}
 use Rattle.std.specs.{Global.{Global}, List.{list_any}, Option.{option_map}, Result.{result_ok}}
 use Rattle.atomic_table.specs.Seated.{TableId}
 use Rattle.rm_base.specs.declared.block.Row.{Row}
 use Rattle.rm_blocks.specs.File.{File}
-use Rattle.rm_live.specs.{History.{IsLegal, fold_of}, Parts.{Parts, row_at}, Passes.{Standing}}
-use Rattle.rm_live.specs.declared.history.{Answer.TheVariants.{Mended}, Call.{Call, TheVariants.{Mend, Read, Write}}, Event.{Event}}
+use Rattle.rm_live.specs.{History.{IsLegal, fold_of}, Parts.{Parts, row_at}, Passes.{Standing}, Touched.{is_mended, is_touched}}
+use Rattle.rm_live.specs.declared.history.{Answer.TheVariants.{Mended}, Call.{Call, TheVariants.{Mend}}, Event.{Event}}
 use Rattle.rm_live.specs.declared.history.LiveFault.{LiveFault}
 use Rattle.rm_channel.specs.{Jobs.{Deed, AreAsLong, lists, writes_of, wrote_of}, Made.{AreBegun, AreThese, Ran, deed}, Room.{AreThreads}}
 use Rattle.rm_channel.specs.{Runs.{is_refused}, declared.jobs.WriteJob.{WriteJob}}
@@ -45,26 +45,6 @@ told_of jobs t writers r = option_map (λ v. mended jobs ++ wrote_of t writers (
 pub record HasMendedBeside {E : Type 0} (p : Standing) (seen : List Event) (jobs : List MendJob) (t : ℕ) (writers : List (List WriteJob)) (r : Result (Vec (Vec (Result ℕ LiveFault) Global) Global) E) : Type 0 where
   pub ran : Ran p seen (mends jobs ++ writes_of t writers) (told_of jobs t writers r)
   pub answers : IfOk r (λ v. AreAsLong (lists v.items) writers)
-
--- the call mends block b of datafile f
-abbrev pub is_mend_of : ℕ → ℕ → Call → Bool
-is_mend_of f b (Read g c) = false
-is_mend_of f b (Write t g c content) = false
-is_mend_of f b (Mend g row) = (g == f) && (row.block == b)
-
--- the call writes it
-abbrev pub is_write_of : ℕ → ℕ → Call → Bool
-is_write_of f b (Read g c) = false
-is_write_of f b (Write t g c content) = (g == f) && (c == b)
-is_write_of f b (Mend g row) = false
-
--- one of the events mends it
-abbrev pub is_mended : List Event → ℕ → ℕ → Bool
-is_mended es f b = list_any (λ e. is_mend_of f b e.call) es
-
--- one mends or writes it
-abbrev pub is_touched : List Event → ℕ → ℕ → Bool
-is_touched es f b = list_any (λ e. is_mend_of f b e.call || is_write_of f b e.call) es
 
 -- one of the lists has a write of it
 abbrev pub is_named : List (List WriteJob) → ℕ → ℕ → Bool
