@@ -79,11 +79,7 @@ fn is_file(catalog: &Catalog, until: Scn) -> bool
     }
     let tree = catalog.tree();
     match datafile(catalog, 1) {
-        Some(found) => {
-            tree.get(1).is_some()
-                && found.creation < until
-                && tree.owner(1, found.creation) == Some(found.inc)
-        }
+        Some(found) => found.creation > 0 && tree.is_there(1) && tree.exists(1, until, &found),
         None => false,
     }
 }

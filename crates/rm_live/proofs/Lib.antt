@@ -2,6 +2,7 @@ pub mod Edges
 pub mod Files
 pub mod Fresh
 pub mod Numbers
+pub mod Opened
 pub mod Seats
 pub mod Sound
 pub mod Steps

@@ -1,45 +1,19 @@
--- The small database is sound, its datafile is there, and its logs have room.
+-- The datafile of the small database is there behind two calls, and its logs have room.
 use Rattle.std.specs.{Global.{Global}, Option.{option_map_or}}
-use Rattle.std.proofs.Common.{◌≡◌, ℕ, zero, suc, ◌+◌, ◌-◌, ◌<◌, ◌≤◌, Bool, true, false, Option, Some, IsSome, Vec, List, [], ◌∷◌, length, map, replicate, slice_get, get_or, All, refl, sym, ap, ◌∙◌, subst, arith}
-use Rattle.std.proofs.lemmas.List.{length-map, Elements.{All-cons, All-head, All-nil, All-tail}}
-use Rattle.rm_base.specs.{Numbers.{last_scn}, declared.block.Row.{Row}}
-use Rattle.rm_blocks.{specs.File.{File, created, created_rows}, proofs.{Created.{created-all}, Rows.{length-created}}}
-use Rattle.rm_redo.specs.Online.{IsLost, IsThread, fresh_log, fresh_logs, log_where, no_log, thread_records, up_to}
+use Rattle.std.proofs.Common.{◌≡◌, ℕ, zero, suc, ◌+◌, ◌-◌, ◌<◌, ◌≤◌, true, false, Option, Some, IsSome, Vec, List, [], ◌∷◌, length, replicate, slice_get, get_or, All, refl, sym, ap, ◌∙◌, subst, arith}
+use Rattle.std.proofs.lemmas.List.{length-map, Elements.{All-head, All-tail}}
+use Rattle.rm_base.specs.declared.block.Row.{Row}
+use Rattle.rm_blocks.{specs.File.{created_rows}, proofs.Rows.{length-created}}
+use Rattle.rm_redo.specs.Online.{IsLost, IsThread, fresh_log, fresh_logs, thread_records}
 use Rattle.rm_redo.specs.declared.online.ThreadLog.{ThreadLog}
-use Rattle.rm_live.specs.{Parts.{IsSound, Parts}, Passes.{IsLater, Standing}, Ruled.{total}}
+use Rattle.rm_live.specs.{Parts.{Parts}, Passes.{IsLater, Standing}, Ruled.{total}}
 use Rattle.rm_channel.specs.{Jobs.{lists}, Room.{AreThreads, CanWrite, HasBlock, HaveRoom, IsThere}, declared.jobs.CopyJob.{CopyJob}}
-use Rattle.rm_channel.specs.declared.jobs.WriteJob.{WriteJob}
+use Rattle.rm_channel.{specs.declared.jobs.WriteJob.{WriteJob}, proofs.There.{created-there}}
 use Rattle.rm_test_channel.specs.Small.{AreWrites, IsOfFile, opening}
 
--- file 1 of so many blocks, and so many threads
-abbrev opening_of : ℕ → ℕ → ℕ → Parts
-opening_of blocks threads now = record { inc = 1; now = now; files = created 1 1 1 blocks ∷ []; logs = fresh_logs 7 1 threads 1; tracker = [] }
-
--- what is true of a fresh log, and of none, is true of each log
-each-log : (P : ThreadLog → Type 0) → P (fresh_log 1) → P no_log → (enabled : List Bool) → All P (map (log_where (fresh_log 1)) enabled)
-each-log P fresh none [] = All-nil P
-each-log P fresh none (true ∷ bs) = All-cons P (fresh_log 1) _ fresh (each-log P fresh none bs)
-each-log P fresh none (false ∷ bs) = All-cons P no_log _ none (each-log P fresh none bs)
-
-pub sound : (blocks threads now : ℕ) → 2 ≤ now → now ≤ last_scn → IsSound (opening_of blocks threads now)
-sound blocks threads now some low = record {
-  inc = refl;
-  begun = omega arith;
-  last = low;
-  first = each-log (λ l. l.first ≤ now) (omega arith) (omega arith) (up_to threads);
-  rows = All-cons (λ (x : File). All (λ (r : Row). r.version < now) x.rows) (created 1 1 1 blocks) [] (created-all (λ (r : Row). r.version < now) 1 blocks (λ b. omega (arith, some))) (All-nil (λ (x : File). All (λ (r : Row). r.version < now) x.rows));
-  records = each-log (λ l. All (λ r. r.scn < now) l.records) (All-nil (λ r. r.scn < now)) (All-nil (λ r. r.scn < now)) (up_to threads);
-}
-
-pub sound-as : (o : Parts) (blocks : ℕ) → o ≡ opening blocks → IsSound o
-sound-as o blocks is = subst IsSound (sym is) (sound blocks 4 2 (omega arith) (omega arith))
-
-pub there-as : (o : Parts) (j : CopyJob) (blocks : ℕ) → o ≡ opening blocks → IsOfFile blocks j → IsThere o.files j
-there-as o j blocks is of = record { size = rw (is, of.file, of.size) (ap Some (length-created 1 blocks)); wanted = of.wanted }
-
--- .. also behind two calls
 pub there-later : (p q r : Standing) (j : CopyJob) (blocks : ℕ) → p.opening ≡ opening blocks → IsLater p q → IsLater q r → IsOfFile blocks j → IsThere r.opening.files j
-there-later p q r j blocks is one two of = there-as r.opening j blocks (ap (λ (s : Standing). s.opening) (two ∙ (λ i. record (one i) { seen = r.seen })) ∙ is) of
+there-later p q r j blocks is one two of =
+    created-there r.opening.files j blocks (ap (λ (s : Standing). s.opening.files) (two ∙ (λ i. record (one i) { seen = r.seen })) ∙ ap (λ (o : Parts). o.files) is) of.file of.size of.wanted
 
 -- each thread is there, and its log is as it began
 log-at : (P : Option ThreadLog → Type 0) (l : ThreadLog) (n k : ℕ) → k < n → P (Some l) → P (slice_get (replicate n l) k)

@@ -82,11 +82,7 @@ fn is_file(catalog: &Catalog, i: IncNo, s: Scn, file: FileNo) -> bool
 {
     let tree = catalog.tree();
     match datafile(catalog, file) {
-        Some(found) => {
-            tree.get(i).is_some()
-                && found.creation < s
-                && tree.owner(i, found.creation) == Some(found.inc)
-        }
+        Some(found) => found.creation > 0 && tree.is_there(i) && tree.exists(i, s, &found),
         None => false,
     }
 }
