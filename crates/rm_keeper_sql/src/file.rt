@@ -183,6 +183,7 @@ impl CatalogFile<FileStore<File>> {
         ensures number { number_in result ≡ 0 }
     {
         let alloc = rt.alloc();
+        // The keeper is built by its fields: a call of a generic function at the type of a connection to files takes 20 seconds and more to prove.
         match connect(rt, path) {
             Ok(connection) => CatalogFile::Opened(SqlKeeper {
                 connection,
