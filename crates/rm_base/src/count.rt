@@ -18,19 +18,20 @@ impl Count {
     pub fn none() -> Self
         ensures { result.times ≡ 0 }
     {
-        Count {}
+        Count::of(&())
     }
 
     /// Counts one time more.
     pub fn rise(&mut self)
         ensures { self.new.times ≡ self.old.times + 1 }
     {
-        *self = self.next();
+        *self = Count::of(self);
     }
 
-    // The count with one time more.
-    fn next(&self) -> Self
-        ensures { result.times ≡ self.now.times + 1 }
+    // The count of as many times as the caller picks, by what it shows.
+    fn of<A>(shown: &A) -> Self
+        ghost many: { ℕ }
+        ensures { result.times ≡ many }
     {
         Count {}
     }

@@ -1,19 +1,12 @@
 -- What a keeper that tells its table knows after a call.
 use Rattle.std.proofs.Common.{◌≡◌, ◌≢◌, ℕ, List, [], ◌∷◌, ◌++◌, sym, ap, subst, ◌∙◌, append_assoc, append-nil, IsTrue, Result, Ok, Err, IfOk, IsPermutation}
-use Rattle.std.proofs.{Math.Logic.{∥∥₁_map}, lemmas.{Bool.{ne_eqb}, List.{map-append}}}
+use Rattle.std.proofs.{Math.Logic.{∥∥₁_map}, lemmas.Bool.{ne_eqb}}
 use Rattle.sqlite_trees.specs.declared.store.Store.{Ghosts}
 use Rattle.sqlite.specs.Held.{Held, state}
 use Rattle.rm_catalog.specs.{contracts.record.Record.{the_row}, Edits.{after_edits}, Keys.{Ascends}, declared.record.Record.{Record}}
 use Rattle.rm_catalog.{specs.declared.record.Edit.{Edit}, proofs.Ascending.{ascends_nil, ascends_after_all}}
 use Rattle.rm_keeper_sql.specs.{Shelves.{numbered, edits_at, records_at}, Table.{Holds, Takes, Reads}, Known.{Known}}
 use Rattle.rm_keeper_sql.proofs.{Permuted.{permuted}, Telling.{records_own, records_other}}
-
--- one edit more of those that are added
-pub one_more : (n : ℕ) (log items : List (ℕ × Edit)) (es more : List Edit) (e : Edit) → items ≡ log ++ numbered n es → es ++ e ∷ [] ≡ more
-    → items ++ (n, e) ∷ [] ≡ log ++ numbered n more
-one_more n log items es more e h k =
-    ap (λ (l : List (ℕ × Edit)). l ++ (n, e) ∷ []) h ∙ append_assoc log (numbered n es) ((n, e) ∷ [])
-    ∙ ap (λ (l : List (ℕ × Edit)). log ++ l) (sym (map-append (λ (x : Edit). (n, x)) es (e ∷ [])) ∙ ap (numbered n) k)
 
 -- what is added to a log that was this one
 pub added_to : (old was new more : List (ℕ × Edit)) → was ≡ old → new ≡ was ++ more → new ≡ old ++ more

@@ -1,5 +1,5 @@
 //! The edits that a shelf accepted, which proofs alone read.
-ghost use Rattle.std.specs.{Prelude.{◌≡◌, ◌∷◌, ◌++◌, [], ℕ, List}, Borrow.{ftrue}};
+ghost use Rattle.std.specs.{Prelude.{◌≡◌, ◌++◌, [], ℕ, List}, Borrow.{ftrue}};
 ghost use Rattle.rm_catalog.specs.declared.record.Edit.{Edit};
 ghost use Rattle.rm_keeper_sql.specs.Shelves.{numbered};
 
@@ -21,23 +21,20 @@ impl Log {
     pub fn none() -> Self
         ensures { result.edits ≡ [] }
     {
-        Log {}
+        Log::of(&())
     }
 
     /// The edits so far, and then these of one number.
     pub fn and(self, number: u32, edits: &[Edit]) -> Self
         ensures { result.edits ≡ self.edits ++ numbered number edits.now }
     {
-        let mut log = self;
-        for edit in edits {
-            log = log.next(&number, edit);
-        }
-        log
+        Log::of(&(&self, number, edits))
     }
 
-    // The edits so far, and then this one.
-    fn next(&self, number: &u32, edit: &Edit) -> Self
-        ensures { result.edits ≡ self.now.edits ++ (number.now, edit.now) ∷ [] }
+    // The edits that the caller picks, by what it shows.
+    fn of<A>(shown: &A) -> Self
+        ghost all: { List (ℕ × Edit) }
+        ensures { result.edits ≡ all }
     {
         Log {}
     }
