@@ -17,6 +17,7 @@ pub mod Ones
 pub mod Order
 pub mod Parts
 pub mod Paths
+pub mod Recorded
 pub mod Records
 pub mod Saves
 pub mod Sections

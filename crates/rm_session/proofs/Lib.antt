@@ -10,7 +10,6 @@ pub mod OnlineParts
 pub mod Orders
 pub mod PartsOf
 pub mod Places
-pub mod Recorded
 pub mod Resting
 pub mod RowsThere
 pub mod SavedFiles

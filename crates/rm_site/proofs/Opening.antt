@@ -7,12 +7,13 @@ use Rattle.rm_catalog.specs.{Faults.{Answers, IsBadRow, IsTaken}, Keys.{Ascends,
 use Rattle.rm_catalog.specs.{declared.catalog.CatalogFault.{CatalogFault, TheVariants.{BadRow}}, declared.record.Record.{Record}}
 use Rattle.rm_catalog.proofs.Ascending.{loaded_in_order}
 use Rattle.rm_catalog.specs.declared.catalog.CatalogFault.TheVariants as catalog
-use Rattle.rm_catalog_typed.{specs.{Loading.{records_in}, TypedCatalog.{TypedCatalog, all_records}}, proofs.Valid.{typed_catalog-valid}}
+use Rattle.rm_catalog_typed.specs.{Loading.{records_in}, TypedCatalog.{TypedCatalog, all_records}}
+use Rattle.rm_catalog_typed.proofs.{Recorded.{one-catalog}, Valid.{typed_catalog-valid}}
 use Rattle.rm_evidence.specs.declared.gathering.EvidenceFault.{EvidenceFault}
 use Rattle.rm_evidence.specs.declared.gathering.EvidenceFault.TheVariants as evidence
 use Rattle.rm_machine.specs.{Loading.{IsLoaded}, Machine.{Machine}, Rest.{HaveParts, IsSoundRest, IsSoundRestBy, Rest, Wakes, catalog_in}}
 use Rattle.rm_machine.specs.{Sound.{IsSound}, declared.state.State.{State}}
-use Rattle.rm_session.proofs.{Recorded.{one-catalog}, Waking.{waking-sound}}
+use Rattle.rm_session.proofs.Waking.{waking-sound}
 use Rattle.rm_machine_laws.specs.Holds.{HoldsRest, View, saved_in}
 use Rattle.rm_site.specs.{Faults.{IsBadFirst, fault_at, fault_in}, Opens.{AreValid, Opens, Shows}}
 

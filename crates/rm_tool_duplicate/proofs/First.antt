@@ -3,13 +3,13 @@ use Rattle.std.specs.{Prelude.{replicate}, List.{filter_map}}
 use Rattle.std.proofs.Common.{◌≡◌, ◌+◌, ◌&&◌, ◌∙◌, ℕ, zero, suc, Bool, true, false, cond, [], ◌∷◌, Option, Some, None, map, not, ◌++◌, length, refl, ap, subst}
 use Rattle.rm_base.specs.Store.{Held}
 use Rattle.rm_blocks.specs.File.{File}
-use Rattle.rm_catalog_typed.specs.{TypedCatalog.{Saved, TypedCatalog, records_of}, Switches.{enabled_at}}
+use Rattle.rm_catalog_typed.{specs.{TypedCatalog.{Saved, TypedCatalog, records_of}, Switches.{enabled_at}}, proofs.Recorded.{one-catalog}}
 use Rattle.rm_dup.specs.Entries.{nothing}
 use Rattle.rm_history.specs.Tree.{end_of}
 use Rattle.rm_machine.specs.{Damage.{undamaged}, Loading.{IsLoaded, IsLoadedBy, lost_instance}, Recovery.{in_place, online_logs}}
 use Rattle.rm_machine.specs.{State.{counted, is_lost, is_online, ledger, online}, declared.state.{Instance.{Instance}, State.{State}}}
 use Rattle.rm_redo.specs.Online.{has_log}
-use Rattle.rm_session.proofs.{Lost.{all-lost}, Recorded.{one-catalog}}
+use Rattle.rm_session.proofs.Lost.{all-lost}
 
 -- where each is lost, none is in place
 none-placed : (k n : ℕ) → filter_map (λ (o : Option File). o) (undamaged [] k (replicate n None)) ≡ []

@@ -1,4 +1,4 @@
-use Rattle.rm_session.proofs.Recorded.{one-catalog}
+use Rattle.rm_catalog_typed.proofs.Recorded.{one-catalog}
 use Rattle.rm_session.proofs.records.records_tell_one_catalog.Goals as goal
 
 pub returns : goal.returns
