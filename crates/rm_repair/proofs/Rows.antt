@@ -1,6 +1,6 @@
 -- The rows behind mends and writes.
-use Rattle.std.specs.{List.{list_any}, Option.{option_map_or}, Str.{bytes_eq}}
-use Rattle.std.proofs.Common.{◌≡◌, ◌≢◌, ◌∙◌, ◌⊎◌, ◌==◌, ◌&&◌, ◌||◌, ◌+◌, ◌≤◌, inl, inr, ℕ, suc, Bool, true, false, Option, Some, None, Ok, Err, IsSome, is_some, List, [], ◌∷◌, ◌++◌, All, Contains, cond, find, map, slice_get, refl, ap, subst, sym, arith}
+use Rattle.std.specs.{List.{list_any}, Str.{bytes_eq}}
+use Rattle.std.proofs.Common.{◌≡◌, ◌≢◌, ◌∙◌, ◌⊎◌, ◌==◌, ◌&&◌, ◌||◌, ◌+◌, ◌≤◌, inl, inr, ℕ, suc, Bool, true, false, Option, Some, None, Ok, Err, IsSome, is_some, List, [], ◌∷◌, ◌++◌, All, Contains, cond, find, map, refl, ap, subst, sym, arith}
 use Rattle.std.proofs.lemmas.{Bool.{and_from, and_parts, cases_Bool, eq-eqb, eqb-true, or_parts}, List.Elements.{All-contains, All-weaker}}
 use Rattle.std.proofs.lemmas.Slice.Eq.{bytes_eq-Decides}
 use Rattle.rm_base.{specs.declared.block.Row.{Row}, proofs.{Members.{behind, in-front}, Slots.{get-set_other, get-set_same}}}
@@ -10,7 +10,7 @@ use Rattle.rm_live.specs.Touched.{is_mend_of, is_mended, is_touched, is_write_of
 use Rattle.rm_live.specs.declared.history.{Answer.{Answer, TheVariants.{Found, Mended, Wrote}}, Call.{Call}}
 use Rattle.rm_live.specs.declared.history.{Call.TheVariants.{Mend, Read, Write}, Event.{Event}}
 use Rattle.rm_channel.specs.{Jobs.{Deed, writes, writes_of}, Made.{AreBegun, deed}, declared.jobs.WriteJob.{WriteJob}}
-use Rattle.rm_channel.proofs.{Mine.{total-append}, Rooms.{off-by}, Steps.{fold-append, legal-behind}, There.{there-after, there-fold}}
+use Rattle.rm_channel.proofs.{Mine.{total-append}, Rooms.{off-by}, Steps.{fold-append, legal-behind}, There.{at_file, there-after, there-fold}}
 use Rattle.rm_repair.specs.Mended.{HasBlock, RowsAreBehind, is_named, mends}
 use Rattle.rm_repair.specs.declared.jobs.MendJob.{MendJob}
 
@@ -28,9 +28,6 @@ other-by x xs g row f b false false one two other ih = rw two ih
 row-other : (files : List File) (g : ℕ) (row : Row) (f b : ℕ) → ((g == f) && (row.block == b)) ≡ false → row_at (with_put files g row) f b ≡ row_at files f b
 row-other [] g row f b other = refl
 row-other (x ∷ xs) g row f b other = other-by x xs g row f b (x.file == g) (x.file == f) refl refl other (row-other xs g row f b other)
-
-abbrev at_file : Option File → ℕ → Option Row
-at_file o b = option_map_or (λ (x : File). slice_get x.rows b) o None
 
 same-by : (x : File) (xs : List File) (f : ℕ) (row : Row) (is_f : Bool) → (x.file == f) ≡ is_f → (IsSome (row_at xs f row.block) → row_at (with_put xs f row) f row.block ≡ Some row)
     → IsSome (at_file (cond is_f (Some x) (find (λ (y : File). y.file == f) xs)) row.block) → row_at (cond is_f (put x row ∷ xs) (x ∷ with_put xs f row)) f row.block ≡ Some row

@@ -1,5 +1,5 @@
 use Rattle.std.proofs.Common.{◌∙◌, sym}
-use Rattle.rm_plan.proofs.Firsts.{created_above}
+use Rattle.rm_evidence.proofs.Current.{created_above}
 use Rattle.rm_plan.proofs.first.gap_of_file.Goals as goal
 
 pub exists-requires-clause-created : goal.exists-requires-clause-created
