@@ -72,21 +72,21 @@ module _ (w : World) (i s : ℕ) where
 pub asked_below : (rs : List Record) (i s n : ℕ) (only : Option ℕ) → IsCatalog rs → 64 < n → (f : ℕ) → IsAsked (world_of rs) i s only f → f < n
 asked_below rs i s n only catalog past f wanted = let most = (file_number rs f wanted.0.datafile catalog wanted.0.is).1 in omega (arith, most, past)
 
--- numbers that ascend from `low` on, below low + n, are at most n
-few-between : (ns : List ℕ) (low n : ℕ) → AllPairs (λ (a b : ℕ). a < b) ns → ((m : ℕ) → Contains ns m → (low ≤ m) × (m < low + n)) → length ns ≤ n
-few-between [] low n up each = omega arith
-few-between (m ∷ ms) low zero up each = let first = each m (in-front m ms) in absurd (omega (arith, first.0, first.1))
-few-between (m ∷ ms) low (suc n) up each =
-    let first = each m (in-front m ms) in
-    let rest = few-between ms (low + 1) n (pairs-tail (λ (a b : ℕ). a < b) m ms up) (λ x has.
-    let more = pairs-head (λ (a b : ℕ). a < b) m ms x up has in
-    let most = (each x (behind m ms x has)).1 in
+-- items that ascend by numbers from `low` on, below low + n, are at most n
+pub few-between : {X : Type 0} (f : X → ℕ) (xs : List X) (low n : ℕ) → AllPairs (λ x y. f x < f y) xs → ((x : X) → Contains xs x → (low ≤ f x) × (f x < low + n)) → length xs ≤ n
+few-between f [] low n up each = omega arith
+few-between f (x ∷ xs) low zero up each = let first = each x (in-front x xs) in absurd (omega (arith, first.0, first.1))
+few-between f (x ∷ xs) low (suc n) up each =
+    let first = each x (in-front x xs) in
+    let rest = few-between f xs (low + 1) n (pairs-tail (λ x y. f x < f y) x xs up) (λ y has.
+    let more = pairs-head (λ x y. f x < f y) x xs y up has in
+    let most = (each y (behind x xs y has)).1 in
     (omega (arith, more, first.0), omega (arith, most))) in
     omega (arith, rest)
 
 -- datafiles of a catalog are at most 64
 pub few-targets : (rs : List Record) (i s : ℕ) (ns : List ℕ) → IsCatalog rs → AreExactly (IsFileTarget (world_of rs) i s) ns → length ns ≤ 64
-few-targets rs i s ns catalog are = few-between ns 1 64 are.ascends (λ m has.
+few-targets rs i s ns catalog are = few-between (λ (m : ℕ). m) ns 1 64 are.ascends (λ m has.
     let target = (are.exact m).0 has in
     let number = file_number rs m target.datafile catalog target.is in
     (number.0, (let most = number.1 in omega (arith, most))))

@@ -1,6 +1,7 @@
 pub mod Edges
 pub mod Files
 pub mod Fresh
+pub mod Mends
 pub mod Numbers
 pub mod Opened
 pub mod Seats

@@ -1,15 +1,14 @@
 -- What the list of all answers says of the events: each is a read, or a write that was asked for; and what the reads found.
-use Rattle.std.specs.Str.{bytes_eq}
 use Rattle.std.proofs.Common.{◌≡◌, ◌≤◌, ◌∙◌, ◌++◌, ◌==◌, ◌&&◌, inl, inr, ℕ, zero, suc, List, [], ◌∷◌, Some, None, Ok, Bool, true, false, refl, ap, subst, arith, length, map, filter, Contains, get_or, slice_get}
 use Rattle.std.proofs.lemmas.Bool.{and_from, and_parts, cases_Bool, eq-eqb, eqb-true}
 use Rattle.std.proofs.lemmas.List.Elements.{Contains-append_cases, Contains-append_left, Contains-append_right}
-use Rattle.std.proofs.lemmas.Slice.Eq.{bytes_eq-Decides}
 use Rattle.rm_base.{specs.declared.block.Row.{Row}, proofs.Lists.{filter_from, filter_to, map_from}}
 use Rattle.rm_base.proofs.Members.{behind, first-or-rest, in-front, none-in}
 use Rattle.rm_channel.specs.{Jobs.{AreRows, Deed, Span, deeds_of, found, found_of, wrote, wrote_of}, Made.{AreThese, deed, did_by}}
 use Rattle.rm_channel.specs.declared.jobs.WriteJob.{WriteJob}
 use Rattle.rm_live.specs.{Ruled.{one_if, total}, declared.history.{Answer.{Answer, TheVariants.{Found, Mended, Wrote}}, Call.{Call}}}
 use Rattle.rm_live.specs.declared.history.{Call.TheVariants.{Mend, Read, Write}, Event.{Event}}
+use Rattle.rm_live.proofs.Mends.{row-itself, row-same, same_row}
 use Rattle.rm_lang_statement.specs.declared.command.WriteForm.{WriteForm}
 use Rattle.rm_machine.specs.{Asked.{blocks_read, by_thread, lists_from, span_of, write_job}, Events.{write_form}, declared.job.Job.{Job}}
 use Rattle.rm_machine.{specs.declared.state.State.{State}, proofs.Walk.{AreAsked, IsAsked, reading}}
@@ -118,9 +117,6 @@ are-asked ws n spans rows scns es these = asked-all ws es (these-asked ws _ (map
 
 -- Reads
 
-abbrev pub same_row : Row → Row → Bool
-same_row q r = (q.block == r.block) && ((q.version == r.version) && bytes_eq q.content.0 r.content.0)
-
 abbrev is_read : ℕ → ℕ → Call → Bool
 is_read f b (Read g c) = (g == f) && (c == b)
 is_read f b (Write t g c content) = false
@@ -134,15 +130,6 @@ has_found r (Mended made) = false
 
 abbrev is_reading : ℕ → ℕ → Row → Deed → Bool
 is_reading f b r d = is_read f b d.0 && has_found r d.1
-
-pub row-same : (q r : Row) → same_row q r ≡ true → q ≡ r
-row-same q r is =
-    let block = and_parts (q.block == r.block) ((q.version == r.version) && bytes_eq q.content.0 r.content.0) is in
-    let rest = and_parts (q.version == r.version) (bytes_eq q.content.0 r.content.0) block.1 in
-    let of : ℕ → ℕ → List ℕ → Row = λ n v c. record { block = n; version = v; content = record { 0 = c } } in
-    ap (λ n. of n q.version q.content.0) (eqb-true q.block r.block block.0)
-    ∙ ap (λ v. of r.block v q.content.0) (eqb-true q.version r.version rest.0)
-    ∙ ap (of r.block r.version) ((bytes_eq-Decides q.content.0 r.content.0).0 rest.1)
 
 reading-is : (f b : ℕ) (r : Row) (d : Deed) → is_reading f b r d ≡ true → d ≡ reading f b r
 reading-is f b r (Read g c, Found (Some q)) is =
@@ -160,8 +147,7 @@ reading-is f b r (Mend g row, answer) is = absurd (cc)
 
 reading-itself : (f b : ℕ) (r : Row) → is_reading f b r (reading f b r) ≡ true
 reading-itself f b r =
-    and_from ((f == f) && (b == b)) (same_row r r) (and_from (f == f) (b == b) (eq-eqb f f refl) (eq-eqb b b refl))
-    (and_from (r.block == r.block) _ (eq-eqb r.block r.block refl) (and_from (r.version == r.version) _ (eq-eqb r.version r.version refl) ((bytes_eq-Decides r.content.0 r.content.0).1 refl)))
+    and_from ((f == f) && (b == b)) (same_row r r) (and_from (f == f) (b == b) (eq-eqb f f refl) (eq-eqb b b refl)) (row-itself r)
 
 these-read : (xs ys : List Deed) (f b : ℕ) (r : Row) → AreThese xs ys → Contains xs (reading f b r) → Contains ys (reading f b r)
 these-read xs ys f b r these has =

@@ -1,6 +1,6 @@
 -- A database whose records of logs, pieces and sets change: what stands goes on to be borne out.
 use Rattle.std.specs.{Prelude.{IfSome}, Option.{option_map_or}}
-use Rattle.std.proofs.Common.{◌≡◌, ◌<◌, ◌≤◌, ◌==◌, ◌⊎◌, inl, inr, ℕ, List, Option, Some, None, Bool, refl, sym, subst, get_or, Contains}
+use Rattle.std.proofs.Common.{◌≡◌, ◌<◌, ◌≤◌, ◌==◌, ◌⊎◌, inl, inr, ℕ, List, Option, Some, None, Bool, refl, sym, subst, find, get_or, Contains}
 use Rattle.std.proofs.lemmas.List.Elements.{All-contains, All-weaker, Contains-get_or}
 use Rattle.rm_base.specs.{Store.{Held}, declared.{block.Change.{Change}, kinds.Kind.{Kind, TheVariants.{Full, Level0, Level1, Place}}}}
 use Rattle.rm_base.{specs.declared.kinds.Status.{Status}, proofs.Lists.{find_cases}}
@@ -208,38 +208,33 @@ PieceAs f = (p : PieceEntry) → (st : Status) × (keep : Bool) × (f p ≡ piec
 abbrev pub SetAs : (SetEntry → SetEntry) → Type 0
 SetAs f = (e : SetEntry) → (st : Status) × (keep : Bool) × (f e ≡ set_as st keep e)
 
+-- of the first item that passes, if there is one
+first-on : {X : Type 0} (s : State) (p : X → Bool) (xs : List X) (change : X → TypedCatalog) → ((x : X) → Contains xs x → GoesOn s (change x)) → GoesOn s (option_map_or change (find p xs) s.catalog)
+first-on s p xs change each = elim (find_cases p xs) [
+  | inl none ↦ subst (λ o. GoesOn s (option_map_or change o s.catalog)) (sym none) (stays-as s)
+  | inr found ↦ subst (λ o. GoesOn s (option_map_or change o s.catalog)) (sym found.is) (each found.item found.held)
+]
+
 -- of the log of an id, if there is one
 pub log-on : (s : State) (f : LogEntry → LogEntry) (n : ℕ) → LogAs f → IsSound s → GoesOn s (log_changed f n s.catalog)
-log-on s f n as_is sound = elim (find_cases (λ e. e.id == n) (ledger s).logs) [
-  | inl none ↦ subst (λ o. GoesOn s (option_map_or (λ e. with_log s.catalog (f e)) o s.catalog)) (sym none) (stays-as s)
-  | inr found ↦
-      let e = found.item in
-      let to = as_is e in
-      subst (λ o. GoesOn s (option_map_or (λ e. with_log s.catalog (f e)) o s.catalog)) (sym found.is)
-      (subst (λ x. GoesOn s (with_log s.catalog x)) (sym to.2) (log-there s sound to.0 to.1 e found.held))
-]
+log-on s f n as_is sound =
+    first-on s (λ (e : LogEntry). e.id == n) (ledger s).logs (λ e. with_log s.catalog (f e)) (λ e has.
+    let to = as_is e in
+    subst (λ x. GoesOn s (with_log s.catalog x)) (sym to.2) (log-there s sound to.0 to.1 e has))
 
 -- of the piece of an id
 pub piece-on : (s : State) (f : PieceEntry → PieceEntry) (n : ℕ) → PieceAs f → IsSound s → GoesOn s (piece_changed f n s.catalog)
-piece-on s f n as_is sound = elim (find_cases (λ p. p.id == n) (ledger s).pieces) [
-  | inl none ↦ subst (λ o. GoesOn s (option_map_or (λ p. with_piece s.catalog (f p)) o s.catalog)) (sym none) (stays-as s)
-  | inr found ↦
-      let p = found.item in
-      let to = as_is p in
-      subst (λ o. GoesOn s (option_map_or (λ p. with_piece s.catalog (f p)) o s.catalog)) (sym found.is)
-      (subst (λ x. GoesOn s (with_piece s.catalog x)) (sym to.2) (piece-there s sound to.0 to.1 p found.held))
-]
+piece-on s f n as_is sound =
+    first-on s (λ (p : PieceEntry). p.id == n) (ledger s).pieces (λ p. with_piece s.catalog (f p)) (λ p has.
+    let to = as_is p in
+    subst (λ x. GoesOn s (with_piece s.catalog x)) (sym to.2) (piece-there s sound to.0 to.1 p has))
 
 -- of the set of an id
 pub set-on : (s : State) (f : SetEntry → SetEntry) (n : ℕ) → SetAs f → IsSound s → GoesOn s (set_changed f n s.catalog)
-set-on s f n as_is sound = elim (find_cases (λ e. e.id == n) (ledger s).sets) [
-  | inl none ↦ subst (λ o. GoesOn s (option_map_or (λ e. with_set s.catalog (f e)) o s.catalog)) (sym none) (stays-as s)
-  | inr found ↦
-      let e = found.item in
-      let to = as_is e in
-      subst (λ o. GoesOn s (option_map_or (λ e. with_set s.catalog (f e)) o s.catalog)) (sym found.is)
-      (subst (λ x. GoesOn s (with_set s.catalog x)) (sym to.2) (set-there s sound to.0 to.1 e found.held))
-]
+set-on s f n as_is sound =
+    first-on s (λ (e : SetEntry). e.id == n) (ledger s).sets (λ e. with_set s.catalog (f e)) (λ e has.
+    let to = as_is e in
+    subst (λ x. GoesOn s (with_set s.catalog x)) (sym to.2) (set-there s sound to.0 to.1 e has))
 
 -- one after the other
 pub then-on : (s : State) (r q : TypedCatalog) → GoesOn s r → GoesOn (with_catalog s r) q → GoesOn s q

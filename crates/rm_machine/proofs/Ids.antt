@@ -1,7 +1,7 @@
 -- Ids of records, ascending: each can be one, and they can be counted.
-use Rattle.std.proofs.Common.{◌≡◌, ◌≤◌, ◌<◌, ◌+◌, ◌^◌, ℕ, zero, suc, List, [], ◌∷◌, Some, subst, arith, length, get_or, All, AllPairs, Contains}
+use Rattle.std.proofs.Common.{◌≡◌, ◌≤◌, ◌<◌, ◌^◌, ℕ, List, Some, subst, arith, length, get_or, All, AllPairs, Contains}
 use Rattle.std.proofs.lemmas.List.Elements.{Contains-get_or, All-contains}
-use Rattle.rm_base.proofs.{Members.{behind, in-front}, Lists.{pairs-head, pairs-tail}}
+use Rattle.rm_apply.proofs.Numbers.{few-between}
 use Rattle.rm_catalog.specs.declared.record.{Record.{Record}, LogEntry.{LogEntry}, PieceEntry.{PieceEntry}, SetEntry.{SetEntry}}
 use Rattle.rm_catalog.specs.declared.record.Record.TheVariants as kind
 use Rattle.rm_evidence.specs.Names.{object_id}
@@ -35,19 +35,9 @@ row-id r (kind.Piece p) n rules is has = let same : p.id ≡ n = cc in subst IsI
 row-id r (kind.Set e) n rules is has = let same : e.id ≡ n = cc in subst IsId same (set-id r rules e (set-in r e rules has))
 row-id r x n rules is has = absurd (cc)
 
--- numbers that ascend from `low` on, below low + n, are at most n
-few-between : (ns : List ℕ) (low n : ℕ) → AllPairs (λ (a b : ℕ). a < b) ns → ((m : ℕ) → Contains ns m → (low ≤ m) × (m < low + n)) → length ns ≤ n
-few-between [] low n up each = omega arith
-few-between (m ∷ ms) low zero up each = let first = each m (in-front m ms) in absurd (omega (arith, first.0, first.1))
-few-between (m ∷ ms) low (suc n) up each =
-    let rest = few-between ms (low + 1) n (pairs-tail (λ (a b : ℕ). a < b) m ms up) (λ x has.
-    (omega (arith, pairs-head (λ (a b : ℕ). a < b) m ms x up has, (each m (in-front m ms)).0), omega (arith, (each x (behind m ms x has)).1))) in
-    omega (arith, rest)
+pub some-ids : (ids : List ℕ) → ((n : ℕ) → Contains ids n → IsId n) → All (λ n. 1 ≤ n) ids
+some-ids ids each = λ k d inside. (each (get_or ids k d) (Contains-get_or ids k d inside)).0
 
-module _ (ids : List ℕ) (each : (n : ℕ) → Contains ids n → IsId n) where
-  pub some-ids : All (λ n. 1 ≤ n) ids
-  some-ids = λ k d inside. (each (get_or ids k d) (Contains-get_or ids k d inside)).0
-
-  -- so few that they are counted
-  pub few-ids : AllPairs (λ (m n : ℕ). m < n) ids → length ids < 2 ^ 32
-  few-ids up = let few = few-between ids 1 4294967295 up (λ n has. let r = each n has in (r.0, let most = r.1 in omega (arith, most))) in omega (arith, few)
+-- items that ascend by their ids are so few that they are counted
+pub few-ids : {X : Type 0} (f : X → ℕ) (xs : List X) → ((x : X) → Contains xs x → IsId (f x)) → AllPairs (λ x y. f x < f y) xs → length xs < 2 ^ 32
+few-ids f xs each up = let few = few-between f xs 1 4294967295 up (λ x has. let r = each x has in (r.0, let most = r.1 in omega (arith, most))) in omega (arith, few)

@@ -69,6 +69,7 @@ pub mod Repairs
 pub mod Restoring
 pub mod Returned
 pub mod Rolling
+pub mod Searched
 mod Sizes
 pub mod Skipped
 pub mod Standing

@@ -1,7 +1,7 @@
 -- Which events a BLOCKRECOVER has, and what the evidence tells of their rows.
 use Rattle.std.proofs.Common.{◌≡◌, ◌∙◌, ◌++◌, ◌==◌, ◌&&◌, inl, inr, ℕ, suc, List, [], ◌∷◌, Ok, Err, Result, Bool, true, false, refl, ap, sym, subst, arith, map, Contains}
 use Rattle.std.proofs.lemmas.Bool.{and_from, and_parts, eq-eqb, eqb-true, or_cases}
-use Rattle.std.proofs.lemmas.{List.Elements.{Contains-append_cases, Contains-append_left}, Slice.Eq.{bytes_eq-Decides}}
+use Rattle.std.proofs.lemmas.List.Elements.{Contains-append_cases, Contains-append_left}
 use Rattle.rm_base.{specs.declared.block.{BlockId.{BlockId}, Row.{Row}}, proofs.Lists.{any_to, filter_from, filter_to, map_from}}
 use Rattle.rm_base.proofs.Members.{behind, first-or-rest, in-front, none-in}
 use Rattle.rm_channel.specs.{Jobs.{Deed, wrote, wrote_of}, Made.{AreThese, deed, did_by}, declared.jobs.WriteJob.{WriteJob}}
@@ -10,7 +10,8 @@ use Rattle.rm_lang_statement.specs.declared.command.WriteForm.{WriteForm}
 use Rattle.rm_live.specs.{Ruled.{one_if}, declared.history.{Answer.{Answer, TheVariants.{Found, Mended, Wrote}}, Call.{Call}}}
 use Rattle.rm_live.specs.{Touched.{is_mend_of, is_mended}, declared.history.{Call.TheVariants.{Mend, Read, Write}, Event.{Event}, LiveFault.{LiveFault}}}
 use Rattle.rm_machine.specs.{Asked.{lists_from}, BlockRecover.{mends_of}}
-use Rattle.rm_machine.proofs.{Deeds.{counted, had, row-same, same_row, writes-asked}, Walk.{IsAsked}, Mending.{AreDue, IsDue, Patch}}
+use Rattle.rm_live.proofs.Mends.{mends-itself, mends-same, mends_by}
+use Rattle.rm_machine.proofs.{Deeds.{counted, had, writes-asked}, Walk.{IsAsked}, Mending.{AreDue, IsDue, Patch}}
 use Rattle.rm_plan.specs.Blocks.{AreToldRows, IsToldRow}
 
 -- the rows with the datafiles of their blocks
@@ -101,37 +102,23 @@ never-stray ws ms (Mend f row, Wrote w) due is = due
 never-stray ws ms (Mend f row, Mended true) due is = absurd (cc)
 never-stray ws ms (Mend f row, Mended false) due is = due
 
--- a mend of datafile f by this row
-abbrev mends_by : ℕ → Row → Deed → Bool
-mends_by f row (Read g b, answer) = false
-mends_by f row (Write t g b content, answer) = false
-mends_by f row (Mend g q, answer) = (g == f) && same_row q row
-
-row-itself : (r : Row) → same_row r r ≡ true
-row-itself r = and_from (r.block == r.block) _ (eq-eqb r.block r.block refl) (and_from (r.version == r.version) _ (eq-eqb r.version r.version refl) ((bytes_eq-Decides r.content.0 r.content.0).1 refl))
-
-mends-itself : (m : Patch) → mends_by m.0 m.1 (mend_deed m) ≡ true
-mends-itself m = and_from (m.0 == m.0) (same_row m.1 m.1) (eq-eqb m.0 m.0 refl) (row-itself m.1)
-
-due-row : (ws : List WriteForm) (ms : List Patch) (f : ℕ) (row : Row) (d : Deed) → mends_by f row d ≡ true → Due ws ms d → Contains ms (f, row)
+due-row : (ws : List WriteForm) (ms : List Patch) (f : ℕ) (row : Row) (d : Deed) → mends_by f row d.0 ≡ true → Due ws ms d → Contains ms (f, row)
 due-row ws ms f row (Read g b, answer) is due = absurd due
 due-row ws ms f row (Write t g b content, answer) is due = absurd (cc)
 due-row ws ms f row (Mend g q, Found found) is due = absurd due
 due-row ws ms f row (Mend g q, Wrote w) is due = absurd due
 due-row ws ms f row (Mend g q, Mended true) is due =
-    let both = and_parts (g == f) (same_row q row) is in
-    let file = eqb-true g f both.0 in
-    let same = row-same q row both.1 in
-    subst (Contains ms) (λ i. (file i, same i)) due
+    let same = mends-same f row g q is in
+    subst (Contains ms) (λ i. (same.0 i, same.1 i)) due
 due-row ws ms f row (Mend g q, Mended false) is due = absurd due
 
 -- so it mends the block of the row
-mends-of : (m : Patch) (c : Call) (answer : Answer) → mends_by m.0 m.1 (c, answer) ≡ true → is_mend_of m.0 m.1.block c ≡ true
-mends-of m (Read f b) answer is = absurd (cc)
-mends-of m (Write t f b content) answer is = absurd (cc)
-mends-of m (Mend g q) answer is =
-    let both = and_parts (g == m.0) (same_row q m.1) is in
-    and_from (g == m.0) (q.block == m.1.block) both.0 (eq-eqb q.block m.1.block (ap (λ (r : Row). r.block) (row-same q m.1 both.1)))
+mends-of : (m : Patch) (c : Call) → mends_by m.0 m.1 c ≡ true → is_mend_of m.0 m.1.block c ≡ true
+mends-of m (Read f b) is = absurd (cc)
+mends-of m (Write t f b content) is = absurd (cc)
+mends-of m (Mend g q) is =
+    let same = mends-same m.0 m.1 g q is in
+    and_from (g == m.0) (q.block == m.1.block) (eq-eqb g m.0 same.0) (eq-eqb q.block m.1.block (ap (λ (r : Row). r.block) same.1))
 
 module _ (xs : List BlockId) (rows : List Row) (n : ℕ) (ws : List WriteForm) (scns : List (List ℕ)) (es : List Event) (these : AreThese (wanted xs rows n ws scns) (map deed es)) where
   abbrev ms : List Patch
@@ -153,9 +140,9 @@ module _ (xs : List BlockId) (rows : List Row) (n : ℕ) (ws : List WriteForm) (
   due-one (Mend f row, Wrote w) has = absurd (not-stray (Mend f row, Wrote w) has refl)
   due-one (Mend f row, Mended false) has = absurd (not-stray (Mend f row, Mended false) has refl)
   due-one (Mend f row, Mended true) has =
-      let by = mends_by f row in
+      let by : Deed → Bool = λ d. mends_by f row d.0 in
       let same = these.each_once (λ x. one_if (by x)) in
-      let it = had by (wanted xs rows n ws scns) (omega (arith, counted by (map deed es) (Mend f row, Mended true) has (mends-itself (f, row)), same)) in
+      let it = had by (wanted xs rows n ws scns) (omega (arith, counted by (map deed es) (Mend f row, Mended true) has (mends-itself f row), same)) in
       due-row ws ms f row it.0 it.2 (wanted-due xs rows n ws scns it.0 it.1)
 
   due-all : (fs : List Event) → ((d : Deed) → Contains (map deed fs) d → Due ws ms d) → AreDue ws ms fs
@@ -169,12 +156,12 @@ module _ (xs : List BlockId) (rows : List Row) (n : ℕ) (ws : List WriteForm) (
   -- and each mend that is due is among them
   pub due-mended : (m : Patch) → Contains ms m → is_mended es m.0 m.1.block ≡ true
   due-mended m has =
-      let by = mends_by m.0 m.1 in
+      let by : Deed → Bool = λ d. mends_by m.0 m.1 d.0 in
       let same = these.each_once (λ x. one_if (by x)) in
       let first = Contains-append_left (mends_of xs rows) (wrote_of 1 (lists_from 1 n ws) (map (map Ok) scns)) (mend_deed m) (due-mend xs rows m has) in
-      let it = had by (map deed es) (omega (arith, counted by (wanted xs rows n ws scns) (mend_deed m) first (mends-itself m), same)) in
+      let it = had by (map deed es) (omega (arith, counted by (wanted xs rows n ws scns) (mend_deed m) first (mends-itself m.0 m.1), same)) in
       let from = map_from deed es it.0 it.1 in
-      any_to (λ (e : Event). is_mend_of m.0 m.1.block e.call) es from.item from.held (mends-of m from.item.call from.item.answer (subst (λ (x : Deed). by x ≡ true) (sym from.is) it.2))
+      any_to (λ (e : Event). is_mend_of m.0 m.1.block e.call) es from.item from.held (mends-of m from.item.call (subst (λ (x : Deed). by x ≡ true) (sym from.is) it.2))
 
 -- an event that mends a block of these is by one of the rows
 mended-by : (ws : List WriteForm) (ms : List Patch) (f b : ℕ) (c : Call) (answer : Answer) → IsDue ws ms c answer → is_mend_of f b c ≡ true → (m : Patch) × Contains ms m × (m.0 ≡ f) × (m.1.block ≡ b)

@@ -10,7 +10,7 @@ use Rattle.rm_piece.specs.{Spelling.{spelling}, declared.piece.Piece.{Piece}}
 use Rattle.rm_report.specs.declared.line.Line.{Line, TheVariants.{BackedUp}}
 use Rattle.rm_lang_statement.specs.declared.command.BackupForm.{BackupForm}
 use Rattle.rm_machine.specs.{Backup.{is_copy, kind_by, rows_from}, Effect.{Made, a_piece}, Lists.{packing_by, shape_by}, State.{ledger}}
-use Rattle.rm_machine.specs.declared.{job.Job.{Job}, state.State.{State}}
+use Rattle.rm_machine.specs.declared.{job.{FileBackup.{FileBackup}, Job.{Job}}, state.State.{State}}
 
 -- by the records, the piece of a datafile of which these rows were read, with this checkpoint
 abbrev pub piece_by : Ledger → BackupForm → ℕ → Job → List Row → Piece
@@ -47,10 +47,25 @@ pub record Copied : Type 0 where
   pub piece : Piece
   pub reads : ℕ
 
+-- what its line tells beside the id
+abbrev pub told_alone : Copied → FileBackup
+told_alone x =
+    record {
+      packing = packing_by x.copy;
+      file = x.piece.file;
+      shape = shape_by x.piece.kind x.piece.from;
+      checkpoint = x.piece.checkpoint;
+      rows = length x.piece.rows;
+      reads = x.reads;
+    }
+
+-- the line of a datafile that is backed up, under an id
+abbrev pub line_under : ℕ → FileBackup → Line
+line_under id x = BackedUp x.packing id x.file x.shape x.checkpoint x.rows x.reads
+
 -- its line, under the next id
 abbrev pub line_for : State → Copied → Line
-line_for s x =
-    BackedUp (packing_by x.copy) (ledger s).base.next_id x.piece.file (shape_by x.piece.kind x.piece.from) x.piece.checkpoint (length x.piece.rows) x.reads
+line_for s x = line_under (ledger s).base.next_id (told_alone x)
 
 -- by the records, the pieces of these datafiles, of which these rows were read, with this checkpoint
 abbrev pub copied : Ledger → BackupForm → ℕ → List Job → List (List Row) → List Copied

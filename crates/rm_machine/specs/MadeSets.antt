@@ -7,11 +7,11 @@ use Rattle.rm_history.specs.World.{creation_of}
 use Rattle.rm_catalog_typed.specs.{Ledger.{Ledger}, Changes.{with_new_set}, Worlds.{world_of}}
 use Rattle.rm_evidence.specs.Names.{set_name}
 use Rattle.rm_piece.specs.{Filling.{risen}, SetSpelling.{set_spelling, spelled}, declared.set.{Set.{Set}, SetFile.{SetFile}}}
-use Rattle.rm_report.specs.declared.line.Line.{Line, TheVariants.{BackedUp}}
+use Rattle.rm_report.specs.declared.line.Line.{Line}
 use Rattle.rm_report.specs.declared.line.Packing.TheVariants as packing
 use Rattle.rm_lang_statement.specs.declared.command.BackupForm.{BackupForm}
-use Rattle.rm_machine.specs.{Backup.{set_entry}, Effect.{Made, a_set}, Lists.{shape_by}, MadePieces.{piece_by}, State.{ledger}}
-use Rattle.rm_machine.specs.declared.{job.Job.{Job}, state.State.{State}}
+use Rattle.rm_machine.specs.{Backup.{set_entry}, Effect.{Made, a_set}, Lists.{shape_by}, MadePieces.{line_under, piece_by}, State.{ledger}}
+use Rattle.rm_machine.specs.declared.{job.{FileBackup.{FileBackup}, Job.{Job}}, state.State.{State}}
 
 -- By the records, the member of a datafile of which these rows were read, with this checkpoint. A row that is not above the creation
 -- counts as the zero row at the creation.
@@ -52,8 +52,18 @@ set_object s a = record { name = set_name (ledger s).base.next_id; bytes = set_s
 abbrev pub after_set : State → BackupForm → List ℕ → Set → State
 after_set s b tag a = record s { catalog = with_new_set s.catalog (set_entry_for s b tag a) }
 
--- the line of a member, under the next id; its rows are those that stand in the bytes
+-- what the line of a member tells beside the id; its rows are those that stand in the bytes
+abbrev pub told_member : InSet → FileBackup
+told_member x =
+    record {
+      packing = packing.Set;
+      file = x.member.piece.file;
+      shape = shape_by x.member.piece.kind x.member.piece.from;
+      checkpoint = x.member.piece.checkpoint;
+      rows = length (spelled x.member);
+      reads = x.reads;
+    }
+
+-- its line, under the next id
 abbrev pub member_line : State → InSet → Line
-member_line s x =
-    BackedUp packing.Set (ledger s).base.next_id x.member.piece.file (shape_by x.member.piece.kind x.member.piece.from)
-    x.member.piece.checkpoint (length (spelled x.member)) x.reads
+member_line s x = line_under (ledger s).base.next_id (told_member x)

@@ -24,6 +24,6 @@ pub mod until;
 pub mod writers;
 
 pub use handed::Handed;
-pub use job::Job;
+pub use job::{FileBackup, Job};
 pub use nature::{Nature, is_built, nature_of, only_tells};
 pub use state::{Instance, State};

@@ -2,20 +2,14 @@
 use mathlib.Core.List.{map-append}
 use Rattle.std.proofs.Common.{◌≡◌, ◌∙◌, ◌+◌, ◌<◌, ℕ, List, [], ◌∷◌, ◌++◌, All, drop, get_or, length, map, take, refl, ap, subst, sym, append_assoc, take-append-drop}
 use Rattle.std.proofs.lemmas.List.{take_more, Elements.{All-cons, All-nil}}
-use Rattle.rm_base.specs.declared.block.{Block.{Block}, BlockId.{BlockId}, Part.{Part}, Row.{Row}}
+use Rattle.rm_base.{specs.declared.block.{Block.{Block}, BlockId.{BlockId}, Part.{Part}, Row.{Row}}, proofs.Lists.{all_zip_join}}
 use Rattle.rm_history.specs.{Evidence.{Evidence}, FirstGap.{IsDetermined}, declared.world.World.{World}}
-use Rattle.rm_plan.specs.{Blocks.{AreToldRows, NamesFirstOf}, Chosen.{AreToldParts, IsFaultOf, id_of, row_of}}
+use Rattle.rm_plan.specs.{Blocks.{AreToldRows, IsToldRow, NamesFirstOf}, Chosen.{AreToldParts, IsFaultOf, id_of, row_of}}
 use Rattle.rm_plan.specs.{Plan.{IsFault, NamesGap, Tells}, declared.plan.{Gap.{Gap}, PlanFault.{PlanFault}}}
 use Rattle.rm_plan.specs.declared.plan.PlanFault.TheVariants as fault
 
 module _ (w : World) (e : Evidence) (i s : ℕ) where
-  -- rows of two lists of blocks
-  pub told-append : (xs ys : List BlockId) (rows more : List Row) → AreToldRows w e i s xs rows → AreToldRows w e i s ys more → AreToldRows w e i s (xs ++ ys) (rows ++ more)
-  told-append [] ys [] more are then = then
-  told-append [] ys (r ∷ rows) more are then = absurd are
-  told-append (x ∷ xs) ys [] more are then = absurd are
-  told-append (x ∷ xs) ys (r ∷ rows) more are then = (are.0, told-append xs ys rows more are.1 then)
-
+  -- blocks whose rows are told are determined
   pub told-determined : (xs : List BlockId) (rows : List Row) → AreToldRows w e i s xs rows → All (λ x. IsDetermined w e i s x.file x.block) xs
   told-determined [] rows are = All-nil (λ x. IsDetermined w e i s x.file x.block)
   told-determined (x ∷ xs) [] are = absurd are
@@ -29,7 +23,7 @@ module _ (w : World) (e : Evidence) (i s : ℕ) where
       let b : ℕ = get_or bs k d in
       let part : Part = record { block = b; version = v; content = x } in
       coe 1 0 (j. AreToldRows w e i s ((ap (map (id_of f)) (take_more bs k d inside) ∙ map-append (id_of f) (take k bs) (b ∷ [])) j) (map-append row_of parts (part ∷ []) j))
-      (told-append (map (id_of f) (take k bs)) (id_of f b ∷ []) (map row_of parts) (row_of part ∷ []) are (record { block = refl; tells = tells }, tt))
+      (all_zip_join (IsToldRow w e i s) (map (id_of f) (take k bs)) (id_of f b ∷ []) (map row_of parts) (row_of part ∷ []) are (record { block = refl; tells = tells }, tt))
 
   -- the gap of a block behind those that are told
   pub first-of : (told rest : List BlockId) (x : BlockId) (rows : List Row) (gap : Gap) → AreToldRows w e i s told rows → NamesGap w e i s x.file x.block gap → NamesFirstOf w e i s (told ++ x ∷ rest) gap

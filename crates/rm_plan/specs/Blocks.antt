@@ -1,5 +1,5 @@
 -- What a planner answers of some blocks.
-use Rattle.std.specs.Prelude.{ℕ, ◌≡◌, List, [], ◌∷◌, ◌++◌, All}
+use Rattle.std.specs.{Prelude.{ℕ, ◌≡◌, List, ◌∷◌, ◌++◌, All}, List.{AllZip}}
 use Rattle.rm_base.specs.declared.block.{BlockId.{BlockId}, Row.{Row}}
 use Rattle.rm_history.specs.{Evidence.{Evidence}, FirstGap.{IsDetermined}, declared.world.World.{World}}
 use Rattle.rm_plan.specs.{Plan.{NamesGap, Tells}, declared.plan.Gap.{Gap}}
@@ -11,10 +11,7 @@ pub record IsToldRow (w : World) (e : Evidence) (i s : ℕ) (x : BlockId) (r : R
 
 -- one row for each of the blocks, in their order
 abbrev pub AreToldRows : World → Evidence → ℕ → ℕ → List BlockId → List Row → Type 0
-AreToldRows w e i s [] [] = Unit {0}
-AreToldRows w e i s [] (r ∷ rows) = ⊥
-AreToldRows w e i s (x ∷ xs) [] = ⊥
-AreToldRows w e i s (x ∷ xs) (r ∷ rows) = IsToldRow w e i s x r × AreToldRows w e i s xs rows
+AreToldRows w e i s xs rows = AllZip (IsToldRow w e i s) xs rows
 
 -- the gap is that of the first of the blocks that is not determined
 pub record NamesFirstOf (w : World) (e : Evidence) (i s : ℕ) (xs : List BlockId) (gap : Gap) : Type 0 where

@@ -1,14 +1,14 @@
 -- The rows behind mends and writes.
-use Rattle.std.specs.{List.{list_any}, Str.{bytes_eq}}
+use Rattle.std.specs.List.{list_any}
 use Rattle.std.proofs.Common.{◌≡◌, ◌≢◌, ◌∙◌, ◌⊎◌, ◌==◌, ◌&&◌, ◌||◌, ◌+◌, ◌≤◌, inl, inr, ℕ, suc, Bool, true, false, Option, Some, None, Ok, Err, IsSome, is_some, List, [], ◌∷◌, ◌++◌, All, Contains, cond, find, map, refl, ap, subst, sym, arith}
 use Rattle.std.proofs.lemmas.{Bool.{and_from, and_parts, cases_Bool, eq-eqb, eqb-true, or_parts}, List.Elements.{All-contains, All-weaker}}
-use Rattle.std.proofs.lemmas.Slice.Eq.{bytes_eq-Decides}
 use Rattle.rm_base.{specs.declared.block.Row.{Row}, proofs.{Members.{behind, in-front}, Slots.{get-set_other, get-set_same}}}
 use Rattle.rm_blocks.specs.File.{File, put}
 use Rattle.rm_live.specs.{History.{IsLegal, IsRight, after, fold_of}, Parts.{Parts, row_at, with_put}, Ruled.{one_if, total}}
 use Rattle.rm_live.specs.Touched.{is_mend_of, is_mended, is_touched, is_write_of}
 use Rattle.rm_live.specs.declared.history.{Answer.{Answer, TheVariants.{Found, Mended, Wrote}}, Call.{Call}}
 use Rattle.rm_live.specs.declared.history.{Call.TheVariants.{Mend, Read, Write}, Event.{Event}}
+use Rattle.rm_live.proofs.Mends.{mends-itself, mends-same, mends_by}
 use Rattle.rm_channel.specs.{Jobs.{Deed, writes, writes_of}, Made.{AreBegun, deed}, declared.jobs.WriteJob.{WriteJob}}
 use Rattle.rm_channel.proofs.{Mine.{total-append}, Rooms.{off-by}, Steps.{fold-append, legal-behind}, There.{at_file, there-after, there-fold}}
 use Rattle.rm_repair.specs.Mended.{HasBlock, RowsAreBehind, is_named, mends}
@@ -81,30 +81,13 @@ fold-last p front e back f row legal there is none =
 
 -- Each mend is a job's
 
--- the call mends datafile f by this row
-abbrev mends_by : ℕ → Row → Call → Bool
-mends_by f row (Read g b) = false
-mends_by f row (Write t g b content) = false
-mends_by f row (Mend g q) = (g == f) && ((q.block == row.block) && ((q.version == row.version) && bytes_eq q.content.0 row.content.0))
-
-mends-itself : (f : ℕ) (row : Row) → mends_by f row (Mend f row) ≡ true
-mends-itself f row =
-    and_from (f == f) _ (eq-eqb f f refl) (and_from (row.block == row.block) _ (eq-eqb row.block row.block refl) (and_from (row.version == row.version) _ (eq-eqb row.version row.version refl) ((bytes_eq-Decides row.content.0 row.content.0).1 refl)))
-
-row-is : (q row : Row) → ((q.block == row.block) && ((q.version == row.version) && bytes_eq q.content.0 row.content.0)) ≡ true → q ≡ row
-row-is q row is =
-    let block = and_parts (q.block == row.block) ((q.version == row.version) && bytes_eq q.content.0 row.content.0) is in
-    let rest = and_parts (q.version == row.version) (bytes_eq q.content.0 row.content.0) block.1 in
-    let of : ℕ → ℕ → List ℕ → Row = λ n v c. record { block = n; version = v; content = record { 0 = c } } in
-    λ i. of (eqb-true q.block row.block block.0 i) (eqb-true q.version row.version rest.0 i) ((bytes_eq-Decides q.content.0 row.content.0).0 rest.1 i)
-
 abbrev IsJob : List MendJob → ℕ → Row → Type 0
 IsJob jobs f row = (j : MendJob) × Contains jobs j × (j.file ≡ f) × (j.row ≡ row)
 
 job-by : (jobs : List MendJob) (f : ℕ) (row : Row) → 1 ≤ total (λ c. one_if (mends_by f row c)) (mends jobs) → IsJob jobs f row
 job-by [] f row some = absurd (omega (arith, some))
 job-by (j ∷ jobs) f row some = elim (cases_Bool (mends_by f row (Mend j.file j.row))) [
-  | inl is ↦ let both = and_parts (j.file == f) _ is in (j, in-front j jobs, eqb-true j.file f both.0, row-is j.row row both.1)
+  | inl is ↦ let same = mends-same f row j.file j.row is in (j, in-front j jobs, same.0, same.1)
   | inr not ↦
       let none : one_if (mends_by f row (Mend j.file j.row)) ≡ 0 = ap one_if not in
       let rest = job-by jobs f row (omega (arith, some, none)) in

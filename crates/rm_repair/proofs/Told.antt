@@ -2,10 +2,10 @@
 use mathlib.Core.List.{map-append}
 use Rattle.std.proofs.Common.{◌≡◌, ◌∙◌, ◌==◌, ◌+◌, ◌≤◌, ℕ, suc, Bool, true, false, cond, List, [], ◌∷◌, ◌++◌, All, length, map, slice_index_or, take, refl, ap, subst, sym, append_assoc, arith, eqb-true}
 use Rattle.std.proofs.lemmas.List.Elements.{All-append, All-cons, All-head, All-map, All-nil, All-tail}
-use Rattle.rm_base.specs.declared.block.{BlockId.{BlockId}, Part.{Part}, Row.{Row}}
+use Rattle.rm_base.{specs.declared.block.{BlockId.{BlockId}, Part.{Part}, Row.{Row}}, proofs.Lists.{all_zip_join}}
 use Rattle.rm_history.specs.{Evidence.{Evidence}, FirstGap.{IsDetermined, IsTarget}, declared.world.World.{World}}
-use Rattle.rm_plan.specs.{Blocks.{AreToldRows}, Chosen.{IsFaultOf, id_of, row_of}, Plan.{IsFileTarget}, declared.plan.PlanFault.{PlanFault}}
-use Rattle.rm_plan.proofs.Chosen.{told-append, told-determined}
+use Rattle.rm_plan.specs.{Blocks.{AreToldRows, IsToldRow}, Chosen.{IsFaultOf, id_of, row_of}, Plan.{IsFileTarget}, declared.plan.PlanFault.{PlanFault}}
+use Rattle.rm_plan.proofs.Chosen.{told-determined}
 use Rattle.rm_plan.specs.declared.plan.PlanFault.TheVariants as fault
 use Rattle.rm_repair.specs.{Jobs.{AreMendJobs, job_of, run_length}, declared.jobs.MendJob.{MendJob}}
 
@@ -62,7 +62,7 @@ module _ (w : World) (e : Evidence) (i s : ℕ) where
   jobs-more f done run jobs more parts of are told is = subst (λ (js : List MendJob). AreMendJobs w e i s (done ++ run) js) (sym is) record {
     files = map-append (λ (j : MendJob). j.file) jobs (map (job_of f) parts) ∙ (λ k. are.files k ++ files-of f run parts of told k) ∙ sym (map-append (λ (x : BlockId). x.file) done run);
     rows = subst (λ (rows : List Row). AreToldRows w e i s (done ++ run) rows) (sym (map-append (λ (j : MendJob). j.row) jobs (map (job_of f) parts) ∙ ap (λ (rows : List Row). map (λ (j : MendJob). j.row) jobs ++ rows) (rows-of f parts)))
-        (told-append w e i s done run (map (λ (j : MendJob). j.row) jobs) (map row_of parts) are.rows told);
+        (all_zip_join (IsToldRow w e i s) done run (map (λ (j : MendJob). j.row) jobs) (map row_of parts) are.rows told);
   }
 
   -- the fault of a run is that of all

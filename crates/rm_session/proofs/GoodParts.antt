@@ -1,7 +1,7 @@
 -- A part that is good is the artefact that was saved.
 use Rattle.std.proofs.Common.{◌≡◌, ◌<◌, ◌∙◌, ◌==◌, ◌&&◌, inl, inr, ℕ, List, Some, None, Bool, true, sym, subst, arith, Contains, find}
 use Rattle.std.proofs.lemmas.Bool.{and_parts, eqb-true}
-use Rattle.rm_base.{specs.{Store.{Held}, declared.block.Change.{Change}}, proofs.Lists.{find_cases}}
+use Rattle.rm_base.specs.{Store.{Held}, declared.block.Change.{Change}}
 use Rattle.rm_catalog.specs.declared.record.PartEntry.{PartEntry}
 use Rattle.rm_history.specs.{Agrees.{BaseAgrees, LogAgrees}, declared.world.Datafile.{Datafile}}
 use Rattle.rm_catalog_typed.specs.{Ledger.{Ledger}, TypedCatalog.{Saved}, Worlds.{world_of}}
@@ -12,16 +12,8 @@ use Rattle.rm_redo.specs.{LogFile.{log_of}, LogFormat.{IsLogFile}, declared.log_
 use Rattle.rm_redo.proofs.LogFitting.{spelling_same as log_same}
 use Rattle.rm_redo.specs.LogFormat as log_format
 use Rattle.rm_machine.specs.{Effect.{Artefact, Made, a_log, a_piece, a_set}, Machine.{IsTrueArtefact, PieceAgrees}}
+use Rattle.rm_machine.proofs.Searched.{found-in}
 use Rattle.rm_machine.specs.{Rest.{HasPartArtefact, PartsTellFor}, Saved.{HasPart, IsGoodFile, IsGoodLog, IsOfPart, spelling_of}}
-
--- what a search finds is there, and passes
-pub found : {X : Type 0} (p : X → Bool) (xs : List X) (x : X) → find p xs ≡ Some x → Contains xs x × (p x ≡ true)
-found p xs x is = elim (find_cases p xs) [
-  | inl none ↦ absurd (let clash : None ≡ Some x = sym none ∙ is in cc)
-  | inr one ↦
-      let same : one.item ≡ x = (let both : Some one.item ≡ Some x = sym one.is ∙ is in cc) in
-      (subst (Contains xs) same one.held, subst (λ y. p y ≡ true) same one.passes)
-]
 
 module _ (l : Ledger) (h : List Change) (objects : Held) (made : List Made) (touched : List (List ℕ)) (site : Saved)
     (truth : (a : Made) → Contains made a → IsTrueArtefact (world_of l) h a.artefact)
@@ -55,7 +47,7 @@ module _ (l : Ledger) (h : List Change) (objects : Held) (made : List Made) (tou
   pub file-agrees : (f : ℕ) (d : Datafile) (a : Piece) → 0 < f → IsGoodFile objects l site f d a → BaseAgrees (world_of l) h (base_of a)
   file-agrees f d a positive good =
       let p = good.part in
-      let at = found (λ q. q.file == f) site.parts p good.is in
+      let at = found-in (λ q. q.file == f) site.parts p good.is in
       let number : p.file ≡ f = eqb-true p.file f at.1 in
       let kept = parts p at.0 in
       subst (λ k. PieceAgrees (world_of l) h k a) good.fits.kind
@@ -64,7 +56,7 @@ module _ (l : Ledger) (h : List Change) (objects : Held) (made : List Made) (tou
   pub log-agrees : (t : ℕ) (a : LogFile) → IsGoodLog objects l site t a → LogAgrees h (log_of a)
   log-agrees t a good =
       let p = good.part in
-      let at = found (λ q. (q.file == 0) && (q.thread == t)) site.parts p good.is in
+      let at = found-in (λ q. (q.file == 0) && (q.thread == t)) site.parts p good.is in
       let number : p.file ≡ 0 = eqb-true p.file 0 (and_parts (p.file == 0) (p.thread == t) at.1).0 in
       let kept = parts p at.0 in
       log-by kept.artefact p a kept.of number (truth _ kept.is) good.valid (bytes-same p (log_format.spelling a) at.0 good.has)

@@ -1,7 +1,7 @@
 -- What was read of datafiles, and the objects that are made of it.
 use Rattle.std.proofs.Common.{◌≡◌, ◌≤◌, ◌<◌, ◌∙◌, ◌++◌, ℕ, zero, suc, List, [], ◌∷◌, Option, Some, None, All, inl, inr, min, ap, refl, sym, subst, arith, drop, length, map, take, take_all}
 use Rattle.std.proofs.lemmas.{Bool.{cases_lt}, List.{drop-map, drop_all, length-map, take-map}}
-use Rattle.std.proofs.lemmas.List.Elements.{All-cons, All-head, All-nil, All-tail}
+use Rattle.std.proofs.lemmas.{List.Elements.{All-cons, All-head, All-nil, All-tail}, Simd.{map-map}}
 use Rattle.rm_base.specs.declared.block.Row.{Row}
 use Rattle.rm_catalog_typed.specs.Ledger.{Ledger}
 use Rattle.rm_lang_statement.specs.declared.command.BackupForm.{BackupForm}
@@ -10,7 +10,7 @@ use Rattle.rm_machine.specs.{MadePieces.{Copied, copied}, MadeSets.{InSet, in_se
 use Rattle.rm_machine.{specs.declared.state.State.{State}, proofs.Groups.{cut-next}}
 use Rattle.rm_step_backup.specs.Making.{CanMake, IsValid, copied_of, files_of, made_by, made_of, member_of, packed_of, reads_by}
 use Rattle.rm_step_backup.specs.declared.{making.Made.{Made}, reading.{FileRead.{FileRead}, Read.{Read, TheVariants.{OfOne, OfSeveral}}}}
-use Rattle.rm_step_backup.proofs.Filled.{filled-on, made-twice}
+use Rattle.rm_step_backup.proofs.Filled.{filled-on}
 
 -- Groups
 
@@ -66,10 +66,10 @@ module _ (l : Ledger) (b : BackupForm) (checkpoint : ℕ) where
   -- they are those that the machine says
   packed-are : (o : Option ℕ) (js : List Job) (rows : List (List Row)) → map (packed_of l b checkpoint) (reads_by o (files_of js rows)) ≡ packed_by o l b checkpoint js rows
   packed-are None js rows =
-      made-twice OfOne (packed_of l b checkpoint) (files_of js rows) ∙ sym (made-twice (copied_of l b checkpoint) alone (files_of js rows)) ∙ ap (map alone) (copies-are js rows)
+      map-map (packed_of l b checkpoint) OfOne (files_of js rows) ∙ sym (map-map alone (copied_of l b checkpoint) (files_of js rows)) ∙ ap (map alone) (copies-are js rows)
   packed-are (Some n) js rows =
       let groups : List (List FileRead) = grouped (Some n) (files_of js rows) in
-      made-twice OfSeveral (packed_of l b checkpoint) groups ∙ sym (made-twice (map (member_of l b checkpoint)) (in_set checkpoint) groups)
+      map-map (packed_of l b checkpoint) OfSeveral groups ∙ sym (map-map (in_set checkpoint) (map (member_of l b checkpoint)) groups)
       ∙ ap (map (in_set checkpoint)) (grouped-are n (files_of js rows) (in_sets l b checkpoint js rows) (members-are js rows))
 
 module _ (s : State) (b : BackupForm) (tag : List ℕ) (checkpoint : ℕ) where
@@ -94,4 +94,4 @@ module _ (s : State) (b : BackupForm) (tag : List ℕ) (checkpoint : ℕ) where
 
     -- all are made
     pub all-made : (all : List Made) → all ≡ map (made_by s b tag checkpoint) reads → all ≡ map (made_of s b tag) (packed (ledger s) b checkpoint js rows)
-    all-made all made = made ∙ sym (made-twice (packed_of (ledger s) b checkpoint) (made_of s b tag) reads) ∙ ap (map (made_of s b tag)) are
+    all-made all made = made ∙ sym (map-map (made_of s b tag) (packed_of (ledger s) b checkpoint) reads) ∙ ap (map (made_of s b tag)) are

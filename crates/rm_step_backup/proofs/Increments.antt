@@ -6,13 +6,14 @@ use Rattle.rm_catalog_typed.specs.Fitting.{FitsBase}
 use Rattle.rm_commit.specs.declared.commit.Object.{Object}
 use Rattle.rm_lang_statement.specs.declared.command.{BackupForm.{BackupForm}, Command.TheVariants.{BackupFrom}}
 use Rattle.rm_machine.specs.{Backup.{taken}, BackupOutcome.{begun}, BackupRefusal.{mark_count}, Effect.{done}, Hands.{Hands}}
-use Rattle.rm_machine.specs.{Marks.{lacks_room}, Roll.{increment, of_all, roll_effect, roll_refusal, rows_listed, with_next_id}}
+use Rattle.rm_machine.specs.Marks.{lacks_room}
+use Rattle.rm_machine.specs.Roll.{increment, line_of, object_of, of_all, roll_effect, roll_refusal, rolled_files, rows_listed, standing_member, standing_set, with_next_id}
 use Rattle.rm_machine.specs.{Sound.{IsSound}, Upkeep.{with_catalog}, State.{ledger}, declared.{handed.Handed.{Handed}, job.Job.{Job}}}
 use Rattle.rm_machine.{specs.declared.state.State.{State}, proofs.{BackingUp.{mapped-all}, Rolling.{can-roll, increment-valid, next-fits}}}
 use Rattle.rm_piece.specs.{Sets.{IsMember, IsSet}, Valid.{IsPiece}, declared.set.{Set.{Set}, SetFile.{SetFile}}}
 use Rattle.rm_piece.proofs.Fitting.{few_rows}
 use Rattle.rm_report.specs.declared.line.Line.{Line}
-use Rattle.rm_step_backup.specs.Increments.{CanStand, jobs_of, line_of, object_of, standing_member, standing_set}
+use Rattle.rm_step_backup.specs.Increments.{CanStand, jobs_of}
 
 -- a valid set lists 65,536 rows of each member at most
 pub rows-few : (a : Set) → IsSet a → rows_listed a ≤ 4194304
@@ -20,28 +21,24 @@ rows-few a is =
     let short = All-weaker (IsMember a) (λ m. length m.piece.rows ≤ 65536) (λ m one. few_rows m.piece one.piece) a.members is.members in
     omega (arith, sum_by-le (λ (m : SetFile). length m.piece.rows) 65536 a.members short, is.few)
 
-module _ (s : State) (from : ℕ) (sound : IsSound s) (accepted : roll_refusal s from ≡ None) (b : BackupForm) (form : b ≡ of_all) (js : List Job) (jobs : js ≡ jobs_of from (taken s b)) where
-  abbrev job : ℕ → Job
-  job f = record { file = f; from = Some from }
+-- the datafiles of these jobs
+pub files-are : (from : ℕ) (files : List ℕ) → map (λ (j : Job). j.file) (jobs_of from files) ≡ files
+files-are from files = map-map (λ (j : Job). j.file) (λ (f : ℕ). record { file = f; from = Some from }) files ∙ map-id files
 
-  pub files-are : map (λ j. j.file) js ≡ taken s b
-  files-are = ap (map (λ (j : Job). j.file)) jobs ∙ map-map (λ (j : Job). j.file) job (taken s b) ∙ map-id (taken s b)
+module _ (s : State) (from : ℕ) (sound : IsSound s) (accepted : roll_refusal s from ≡ None) (b : BackupForm) (form : b ≡ of_all) (fs : List ℕ) (files : fs ≡ taken s b) where
+  pub set-is : standing_set s b from fs ≡ increment s from
+  set-is = let all : fs ≡ rolled_files s = files ∙ ap (taken s) form in λ i. standing_set s (form i) from (all i)
 
-  pub set-is : standing_set s b js ≡ increment s from
-  set-is =
-      let all : js ≡ jobs_of from (taken s of_all) = jobs ∙ ap (λ x. jobs_of from (taken s x)) form in
-      (λ i. standing_set s (form i) (all i)) ∙ ap (λ (ms : List SetFile). record (increment s from) { members = ms }) (map-map (standing_member s of_all) job (taken s of_all))
-
-  pub set-valid : IsSet (standing_set s b js)
+  pub set-valid : IsSet (standing_set s b from fs)
   set-valid = subst IsSet (sym set-is) (increment-valid s from sound accepted)
 
-  pub can-stand : CanStand s b js
+  pub can-stand : CanStand s b from fs
   can-stand =
-      let a : Set = standing_set s b js in
-      let each : All (λ j. IsMember a (standing_member s b j)) js = mapped-all (IsMember a) (standing_member s b) js set-valid.members in
+      let a : Set = standing_set s b from fs in
+      let each : All (λ f. IsMember a (standing_member s b from f)) fs = mapped-all (IsMember a) (standing_member s b from) fs set-valid.members in
       record {
-        some = All-weaker (λ j. IsMember a (standing_member s b j)) (λ j. 0 < j.file) (λ j one. omega (arith, one.piece.file.0)) js each;
-        valid = All-weaker (λ j. IsMember a (standing_member s b j)) (λ j. IsPiece (standing_member s b j).piece) (λ j one. one.piece) js each;
+        some = All-weaker (λ f. IsMember a (standing_member s b from f)) (λ f. 0 < f) (λ f one. omega (arith, one.piece.file.0)) fs each;
+        valid = All-weaker (λ f. IsMember a (standing_member s b from f)) (λ f. IsPiece (standing_member s b from f).piece) (λ f one. one.piece) fs each;
       }
 
   -- no mark is written
@@ -58,7 +55,7 @@ module _ (s : State) (from : ℕ) (sound : IsSound s) (accepted : roll_refusal s
         coe 1 0 (i. FitsBase (begun-is i).catalog (record (ledger (begun-is i)).base { next_id = (ledger (begun-is i)).base.next_id + 1 }))
         (next-fits s sound (omega (arith, (can-roll s from accepted).ids)))
 
-    pub hands : (held : Option Held) (x : Handed) (t : State) → x.lines ≡ line_of s (standing_set s b js) from ∷ [] → x.objects ≡ object_of s (standing_set s b js) ∷ [] → x.removes ≡ []
+    pub hands : (held : Option Held) (x : Handed) (t : State) → x.lines ≡ line_of s (standing_set s b from fs) from ∷ [] → x.objects ≡ object_of s (standing_set s b from fs) ∷ [] → x.removes ≡ []
         → t ≡ with_catalog q (with_next_id q.catalog) → Hands held s (BackupFrom from) x t
     hands held x t lines objects removes is =
         let told : x.lines ≡ line_of s (increment s from) from ∷ [] = lines ∙ ap (λ a. line_of s a from ∷ []) set-is in

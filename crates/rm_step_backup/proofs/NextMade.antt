@@ -1,15 +1,17 @@
 -- Objects that are made are recorded, one after another.
 use Rattle.std.proofs.Common.{◌≡◌, ◌∙◌, ◌++◌, ℕ, List, [], ◌∷◌, ap, refl, sym, subst, map}
+use Rattle.std.proofs.lemmas.Simd.{map-map}
 use Rattle.rm_catalog.specs.declared.record.Edit.{Edit}
 use Rattle.rm_catalog_typed.specs.{Changes.{EditsFollow}, Fitting.{FitsNewSet}}
 use Rattle.rm_lang_statement.specs.declared.command.BackupForm.{BackupForm}
 use Rattle.rm_machine.specs.MadeObjects.{CanRecord, Packed, alone, in_set}
-use Rattle.rm_machine.specs.{MadeSets.{InSet, after_set, member_line, set_entry_for, set_object, set_of}, Sound.{IsSound}, State.{ledger}}
+use Rattle.rm_machine.specs.MadeSets.{InSet, after_set, member_line, set_entry_for, set_object, set_of, told_member}
+use Rattle.rm_machine.specs.{MadePieces.{line_under}, Sound.{IsSound}, State.{ledger}}
 use Rattle.rm_machine.{specs.declared.{handed.Handed.{Handed}, state.State.{State}}, proofs.Recording.{Stays, next-fits}}
 use Rattle.rm_piece.specs.declared.set.Set.{Set}
 use Rattle.rm_report.specs.declared.line.Line.{Line}
-use Rattle.rm_step_backup.specs.{Making.{FitsNext, after_entry, line_under, made_of, object_under, told_member}, Recorded.{HasRecorded}}
-use Rattle.rm_step_backup.{specs.declared.making.Made.{Made}, proofs.Filled.{made-twice}}
+use Rattle.rm_step_backup.specs.{Making.{FitsNext, after_entry, made_of, object_under}, Recorded.{HasRecorded}}
+use Rattle.rm_step_backup.specs.declared.making.Made.{Made}
 use Rattle.rm_step_backup.proofs.UnderWay.{IsUnderWay, way-end, way-on, way-start}
 
 module _ (s : State) (b : BackupForm) (tag : List ℕ) (xs : List Packed) (before : List Edit) (first : Handed) where
@@ -51,7 +53,7 @@ module _ (s : State) (b : BackupForm) (tag : List ℕ) (xs : List Packed) (befor
       added (in_set checkpoint ms) rest way is =
           let same : set_of (ledger s) checkpoint ms ≡ set_of (ledger t) checkpoint ms = set-here checkpoint ms way.stays in
           way-on s b tag xs before first t (in_set checkpoint ms) rest mid y way q after z
-          (is.0 ∙ (λ i. after_set t b tag (same i))) is.1 (is.2 ∙ ap (λ (ls : List Line). y.lines ++ ls) (made-twice told_member (line_under (ledger t).base.next_id) ms))
+          (is.0 ∙ (λ i. after_set t b tag (same i))) is.1 (is.2 ∙ ap (λ (ls : List Line). y.lines ++ ls) (map-map (line_under (ledger t).base.next_id) told_member ms))
           (is.3 ∙ (λ i. y.objects ++ set_object t (same i) ∷ [])) is.4
 
       added-by : (m : Made) (behind : List Made) (rest : List Packed) → m ∷ behind ≡ map (made_of s b tag) rest → IsUnderWay s b tag xs rest before mid first y t → IsAdded m → AreLeft after z q behind

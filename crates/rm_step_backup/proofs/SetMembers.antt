@@ -3,20 +3,20 @@ use Rattle.std.proofs.Common.{◌≡◌, ◌++◌, ℕ, List, [], ◌∷◌, All
 use Rattle.std.proofs.lemmas.List.{get_or-map, length-map, Elements.{All-head, All-tail}}
 use Rattle.rm_piece.specs.{Sets.{IsSet}, Valid.{IsPiece}, declared.set.SetFile.{SetFile}}
 use Rattle.rm_catalog_typed.specs.Ledger.{Ledger}
-use Rattle.rm_machine.specs.MadeSets.{InSet, set_of}
-use Rattle.rm_step_backup.{specs.{Making.{told_member}, declared.making.Told.{Told}}, proofs.Filled.{filled-on}}
+use Rattle.rm_machine.specs.{MadeSets.{InSet, set_of, told_member}, declared.job.FileBackup.{FileBackup}}
+use Rattle.rm_step_backup.proofs.Filled.{filled-on}
 
 -- its piece is valid
 abbrev IsValidIn : InSet → Type 0
 IsValidIn x = IsPiece x.member.piece
 
 -- of all of these but the rest the members are made, and what is told of them is added
-pub record AreMade (all rest : List InSet) (members : List SetFile) (old now : List Told) : Type 0 where
+pub record AreMade (all rest : List InSet) (members : List SetFile) (old now : List FileBackup) : Type 0 where
   pub valid : All IsValidIn rest
   pub made : members ++ map (λ x. x.member) rest ≡ map (λ x. x.member) all
   pub told : now ++ map told_member rest ≡ old ++ map told_member all
 
-module _ (all : List InSet) (x : InSet) (rest before : List InSet) (next : before ≡ x ∷ rest) (members : List SetFile) (old now : List Told) (way : AreMade all before members old now) where
+module _ (all : List InSet) (x : InSet) (rest before : List InSet) (next : before ≡ x ∷ rest) (members : List SetFile) (old now : List FileBackup) (way : AreMade all before members old now) where
   way-here : AreMade all (x ∷ rest) members old now
   way-here = subst (λ (xs : List InSet). AreMade all xs members old now) next way
 
@@ -24,7 +24,7 @@ module _ (all : List InSet) (x : InSet) (rest before : List InSet) (next : befor
   valid-here = All-head IsValidIn x rest way-here.valid
 
   -- one more
-  pub made-next : (m : SetFile) → m ≡ x.member → (reads : ℕ) → reads ≡ x.reads → (members' : List SetFile) (now' : List Told) → members' ≡ members ++ m ∷ []
+  pub made-next : (m : SetFile) → m ≡ x.member → (reads : ℕ) → reads ≡ x.reads → (members' : List SetFile) (now' : List FileBackup) → members' ≡ members ++ m ∷ []
       → now' ≡ now ++ told_member (record { member = m; reads = reads }) ∷ [] → AreMade all rest members' old now'
   made-next m made reads many members' now' more told = record {
     valid = All-tail IsValidIn x rest way-here.valid;

@@ -6,13 +6,11 @@ use Rattle.rm_catalog_typed.specs.{Changes.{with_new_piece, with_new_set}, Fitti
 use Rattle.rm_commit.specs.declared.commit.Object.{Object}
 use Rattle.rm_evidence.specs.Names.{piece_name, set_name}
 use Rattle.rm_lang_statement.specs.declared.command.BackupForm.{BackupForm}
-use Rattle.rm_machine.specs.{Backup.{grouped, is_copy}, Lists.{packing_by, shape_by}, MadeObjects.{Packed, alone, in_set}}
-use Rattle.rm_machine.specs.{MadePieces.{Copied, entry_for, piece_by}, MadeSets.{InSet, member_by, set_entry_for, set_of}, State.{ledger}}
-use Rattle.rm_machine.specs.declared.{job.Job.{Job}, state.State.{State}}
-use Rattle.rm_piece.specs.{SetSpelling.{set_spelling, spelled}, Sets.{IsSet}, Spelling.{spelling}, Valid.{IsPiece}}
-use Rattle.rm_report.specs.declared.line.Line.{Line, TheVariants.{BackedUp}}
-use Rattle.rm_report.specs.declared.line.Packing.TheVariants as packing
-use Rattle.rm_step_backup.specs.declared.making.{Entry.{Entry, TheVariants.{OfPiece, OfSet}}, Made.{Made}, Told.{Told}}
+use Rattle.rm_machine.specs.{Backup.{grouped, is_copy}, MadeObjects.{Packed, alone, in_set}}
+use Rattle.rm_machine.specs.{MadePieces.{Copied, entry_for, piece_by, told_alone}, MadeSets.{InSet, member_by, set_entry_for, set_of, told_member}}
+use Rattle.rm_machine.specs.{State.{ledger}, declared.{job.Job.{Job}, state.State.{State}}}
+use Rattle.rm_piece.specs.{SetSpelling.{set_spelling}, Sets.{IsSet}, Spelling.{spelling}, Valid.{IsPiece}}
+use Rattle.rm_step_backup.specs.declared.making.{Entry.{Entry, TheVariants.{OfPiece, OfSet}}, Made.{Made}}
 use Rattle.rm_step_backup.specs.declared.reading.{FileRead.{FileRead}, Read.{Read, TheVariants.{OfOne, OfSeveral}}}
 
 -- What was read for each object
@@ -52,29 +50,6 @@ IsValid s (in_set checkpoint xs) = IsSet (set_of (ledger s) checkpoint xs)
 abbrev pub CanMake : State → BackupForm → ℕ → Read → Type 0
 CanMake s b checkpoint r = IsValid s (packed_of (ledger s) b checkpoint r)
 
--- what is told of a piece, and of a member of a set
-abbrev pub told_alone : Copied → Told
-told_alone x =
-    record {
-      packing = packing_by x.copy;
-      file = x.piece.file;
-      shape = shape_by x.piece.kind x.piece.from;
-      checkpoint = x.piece.checkpoint;
-      rows = length x.piece.rows;
-      reads = x.reads;
-    }
-
-abbrev pub told_member : InSet → Told
-told_member x =
-    record {
-      packing = packing.Set;
-      file = x.member.piece.file;
-      shape = shape_by x.member.piece.kind x.member.piece.from;
-      checkpoint = x.member.piece.checkpoint;
-      rows = length (spelled x.member);
-      reads = x.reads;
-    }
-
 -- an object with its record and its bytes
 abbrev pub made_of : State → BackupForm → List ℕ → Packed → Made
 made_of s b tag (alone x) = record { entry = OfPiece (entry_for s b tag x.copy x.piece); told = told_alone x ∷ []; bytes = spelling x.piece }
@@ -107,10 +82,6 @@ FitsNext s (OfSet e) = FitsNewSet s.catalog (next_set s e)
 abbrev pub after_entry : State → Entry → State
 after_entry s (OfPiece e) = record s { catalog = with_new_piece s.catalog (next_piece s e) }
 after_entry s (OfSet e) = record s { catalog = with_new_set s.catalog (next_set s e) }
-
--- the line of a datafile under an id
-abbrev pub line_under : ℕ → Told → Line
-line_under id x = BackedUp x.packing id x.file x.shape x.checkpoint x.rows x.reads
 
 -- the object under an id
 abbrev pub name_under : ℕ → Entry → List ℕ

@@ -6,11 +6,10 @@ ghost use Rattle.rm_step_backup.specs.Making.{CanMake, made_by};
 use crate::pieces::make_piece;
 use crate::reading::Read;
 use crate::sets::make_set;
-use rm_base::{FileNo, NoMemory, Scn, Seq, Text};
+use rm_base::{NoMemory, Scn, Seq, Text};
 use rm_catalog::{PieceEntry, SetEntry};
 use rm_lang_statement::BackupForm;
-use rm_machine::State;
-use rm_report::{Packing, Shape};
+use rm_machine::{FileBackup, State};
 use std::alloc::Global;
 use std::thread::{Threads, join};
 
@@ -21,22 +20,11 @@ pub(crate) enum Entry {
     OfSet(SetEntry),
 }
 
-/// What the line of a datafile that is backed up tells beside the id of its object.
-#[derive(Clone, Copy)]
-pub(crate) struct Told {
-    pub packing: Packing,
-    pub file: FileNo,
-    pub shape: Shape,
-    pub checkpoint: Scn,
-    pub rows: u32,
-    pub reads: u64,
-}
-
 /// An object that is not recorded yet: its record, what is told of its datafiles, and its bytes.
 #[derive(Drop)]
 pub(crate) struct Made {
     pub entry: Entry,
-    pub told: Seq<Told>,
+    pub told: Seq<FileBackup>,
     pub bytes: Seq<u8>,
 }
 

@@ -2,14 +2,14 @@
 ghost use Rattle.std.specs.{Prelude.{◌≡◌, ◌<◌, ◌≤◌, IfOk}, Option.{option_copied}};
 ghost use Rattle.rm_base.specs.Numbers.{last_moment};
 ghost use Rattle.rm_history.specs.World.{blocks_of};
-ghost use Rattle.rm_machine.specs.{MadePieces.{piece_by}, Backup.{IsTagBy, is_copy, kind_by, named_tag, rows_from, rows_in}};
+ghost use Rattle.rm_machine.specs.{MadePieces.{piece_by, told_alone}, Backup.{IsTagBy, is_copy, kind_by, named_tag, rows_from, rows_in}};
 ghost use Rattle.rm_machine.specs.{Sound.{IsSound}, State.{ledger, world}};
 ghost use Rattle.rm_evidence.specs.Objects.{piece_entry};
 ghost use Rattle.rm_piece.specs.{Spelling.{spelling}, Valid.{IsPiece}};
-ghost use Rattle.rm_step_backup.specs.{Making.{made_by, told_alone}, declared.reading.Read.TheVariants.{OfOne}};
+ghost use Rattle.rm_step_backup.specs.{Making.{made_by}, declared.reading.Read.TheVariants.{OfOne}};
 ghost use Rattle.sha2.specs.Sha256.{sha256};
 
-use crate::making::{Entry, Made, Told};
+use crate::making::{Entry, Made};
 use crate::reading::FileRead;
 use rm_base::sealed::Encoded;
 use rm_base::{FileNo, Kind, Moment, NoMemory, Row, Scn, Seq, Status, Text};
@@ -17,7 +17,7 @@ use rm_catalog::PieceEntry;
 use rm_lang_statement::BackupForm;
 use rm_machine::facts::placed;
 use rm_machine::replies::{copied, packing_by, shape_by};
-use rm_machine::{Job, State};
+use rm_machine::{FileBackup, Job, State};
 use rm_piece::{Piece, encode_piece_with_digest, high_of, pick};
 use std::alloc::Global;
 
@@ -154,11 +154,11 @@ fn entry_of(
 }
 
 // What is told of a piece, for which so many blocks were read.
-fn told_piece(copy: bool, piece: &Piece, reads: u64) -> Told
+fn told_piece(copy: bool, piece: &Piece, reads: u64) -> FileBackup
     requires valid { IsPiece piece.now }
     ensures { result ≡ told_alone (record { copy = copy; piece = piece.now; reads = reads }) }
 {
-    Told {
+    FileBackup {
         packing: packing_by(copy),
         file: piece.file,
         shape: shape_by(piece.kind, piece.from),

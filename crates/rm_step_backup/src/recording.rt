@@ -2,23 +2,23 @@
 ghost use Rattle.std.specs.Prelude.{◌≡◌, ◌≤◌, ◌∷◌, ◌++◌, [], IfOk, IfSome, OnOk, length, map};
 ghost use Rattle.rm_catalog_typed.specs.Changes.{EditsFollow};
 ghost use Rattle.rm_channel.specs.Jobs.{lists};
-ghost use Rattle.rm_machine.specs.{MadeObjects.{CanRecord, packed}, Sound.{IsSound}, State.{ledger}};
-ghost use Rattle.rm_step_backup.specs.{Making.{FitsNext, after_entry, line_under, name_under, object_under}, Recorded.{HasRecorded}};
+ghost use Rattle.rm_machine.specs.{MadeObjects.{CanRecord, packed}, MadePieces.{line_under}, Sound.{IsSound}, State.{ledger}};
+ghost use Rattle.rm_step_backup.specs.{Making.{FitsNext, after_entry, name_under, object_under}, Recorded.{HasRecorded}};
 
-use crate::making::{Entry, Made, Told, make_all};
+use crate::making::{Entry, Made, make_all};
 use crate::reading::reads_of;
 use rm_base::{NoMemory, Row, Scn, Seq, Text};
 use rm_catalog::{Edit, PieceEntry, SetEntry};
 use rm_commit::Object;
 use rm_evidence::{piece_name, set_name};
 use rm_lang_statement::BackupForm;
-use rm_machine::{Handed, Job, State};
+use rm_machine::{FileBackup, Handed, Job, State};
 use rm_report::Line;
 use std::alloc::Global;
 use std::thread::Threads;
 
 // The line of a datafile under an id.
-fn line_under(id: u32, told: Told) -> Line
+fn line_under(id: u32, told: FileBackup) -> Line
     ensures { result ≡ line_under id told }
 {
     Line::BackedUp {
@@ -33,7 +33,7 @@ fn line_under(id: u32, told: Told) -> Line
 }
 
 // Adds the line of each of them.
-fn tell_under(lines: &mut Seq<Line>, id: u32, told: &[Told]) -> Result<(), NoMemory>
+fn tell_under(lines: &mut Seq<Line>, id: u32, told: &[FileBackup]) -> Result<(), NoMemory>
     ensures { OnOk result (lines.new ≡ lines.old ++ map (line_under id) told.now) }
 {
     for each in told {

@@ -4,10 +4,11 @@ ghost use Rattle.rm_base.specs.Store.{Held};
 ghost use Rattle.rm_catalog_typed.specs.{Changes.{EditsFollow}, Fitting.{FitsBase}};
 ghost use Rattle.rm_lang_statement.specs.declared.command.Command.TheVariants.{BackupFrom};
 ghost use Rattle.rm_machine.specs.{Backup.{taken}, Hands.{Hands}, Marks.{set_bytes}};
-ghost use Rattle.rm_machine.specs.{Roll.{of_all, roll_refusal, rows_listed, with_next_id}, Sound.{IsSound}, State.{ledger, tree, world}};
+ghost use Rattle.rm_machine.specs.Roll.{line_of, lost_by, object_of, of_all, roll_refusal, room_by, rows_listed, standing_member, standing_set, with_next_id};
+ghost use Rattle.rm_machine.specs.{Sound.{IsSound}, State.{ledger, tree, world}};
 ghost use Rattle.rm_machine.specs.{Step.{refusal_of}, Upkeep.{with_catalog}};
 ghost use Rattle.rm_piece.specs.{Sets.{IsSet}, Valid.{IsPiece}};
-ghost use Rattle.rm_step_backup.specs.Increments.{CanStand, jobs_of, line_of, lost_by, object_of, room_by, standing_member, standing_set};
+ghost use Rattle.rm_step_backup.specs.Increments.{CanStand, jobs_of};
 
 use crate::datafiles::{lost_taken, taken, taken_blocks, taken_count};
 use crate::pieces::rows_in;
@@ -115,50 +116,42 @@ fn jobs_of(alloc: Global, files: &[FileNo], scn: Scn) -> Result<Vec<Job>, NoMemo
     Ok(jobs)
 }
 
-// An increment of each of the datafiles that are taken.
-fn jobs_from(
-    alloc: Global,
-    state: &State,
-    form: &BackupForm,
-    scn: Scn,
-) -> Result<Vec<Job>, NoMemory>
-    requires sound { IsSound state.now }
-    ensures { IfOk result (λ jobs. jobs.items ≡ jobs_of scn (taken state.now form.now)) }
-{
-    let files = taken(alloc, state, form)?;
-    jobs_of(alloc, &files, scn)
-}
-
-// The member of a datafile as it stands in place.
+// The member of a datafile as it stands in place, from an SCN on.
 fn standing_member(
     alloc: Global,
     state: &State,
     form: &BackupForm,
-    job: Job,
+    scn: Scn,
+    file: FileNo,
 ) -> Result<SetFile, NoMemory>
     requires sound { IsSound state.now }
-    requires some { 0 < job.file }
-    requires valid { IsPiece (standing_member state.now form.now job).piece }
-    ensures { IfOk result (λ member. member ≡ standing_member state.now form.now job) }
+    requires some { 0 < file }
+    requires valid { IsPiece (standing_member state.now form.now scn file).piece }
+    ensures { IfOk result (λ member. member ≡ standing_member state.now form.now scn file) }
 {
-    let rows = rows_in(state, job.file);
+    let rows = rows_in(state, file);
+    let job = Job {
+        file,
+        from: Some(scn),
+    };
     member_of(alloc, state, form, job, now(state), rows)
 }
 
-// The set of these datafiles as they stand in place.
+// The set of these datafiles as they stand in place, from an SCN on.
 fn standing_set(
     alloc: Global,
     state: &State,
     form: &BackupForm,
-    jobs: &[Job],
+    scn: Scn,
+    files: &[FileNo],
 ) -> Result<Set, NoMemory>
     requires sound { IsSound state.now }
-    requires can { CanStand state.now form.now jobs.now }
-    ensures { IfOk result (λ set. set ≡ standing_set state.now form.now jobs.now) }
+    requires can { CanStand state.now form.now scn files.now }
+    ensures { IfOk result (λ set. set ≡ standing_set state.now form.now scn files.now) }
 {
     let mut members = Seq::new(alloc);
-    for job in jobs {
-        members.push(standing_member(alloc, state, form, *job)?)?;
+    for file in files {
+        members.push(standing_member(alloc, state, form, scn, *file)?)?;
     }
     let base = state.catalog.base();
     Ok(Set {
@@ -230,23 +223,23 @@ fn draw_id(state: &mut State, edits: &mut Vec<Edit>) -> Result<(), NoMemory>
     state.catalog.set_base(edits, base)
 }
 
-// Makes the set of these datafiles as they stand in place, and hands it out.
+// Makes the set of these datafiles as they stand in place, from an SCN on, and hands it out.
 fn make(
     alloc: Global,
     state: &State,
     form: &BackupForm,
-    jobs: &[Job],
-    from: Scn,
+    scn: Scn,
+    files: &[FileNo],
 ) -> Result<Handed, NoMemory>
     requires sound { IsSound state.now }
-    requires can { CanStand state.now form.now jobs.now }
-    requires valid { IsSet (standing_set state.now form.now jobs.now) }
-    ensures lines { IfOk result (λ x. x.lines ≡ line_of state.now (standing_set state.now form.now jobs.now) from ∷ []) }
-    ensures objects { IfOk result (λ x. x.objects ≡ object_of state.now (standing_set state.now form.now jobs.now) ∷ []) }
+    requires can { CanStand state.now form.now scn files.now }
+    requires valid { IsSet (standing_set state.now form.now scn files.now) }
+    ensures lines { IfOk result (λ x. x.lines ≡ line_of state.now (standing_set state.now form.now scn files.now) scn ∷ []) }
+    ensures objects { IfOk result (λ x. x.objects ≡ object_of state.now (standing_set state.now form.now scn files.now) ∷ []) }
     ensures removes { IfOk result (λ x. x.removes ≡ []) }
 {
-    let set = standing_set(alloc, state, form, jobs)?;
-    hand_out(alloc, state, &set, from)
+    let set = standing_set(alloc, state, form, scn, files)?;
+    hand_out(alloc, state, &set, scn)
 }
 
 // The increment, by the form that takes all datafiles.
@@ -263,9 +256,11 @@ fn roll_all(
     ensures hands { IfOk result (λ x. (held : Option Held) → Hands held state.old (BackupFrom scn) x state.new) }
     ensures edits { OnOk result (EditsFollow edits.old.items edits.new.items state.old.catalog state.new.catalog) }
 {
-    let made = jobs_from(alloc, state, form, scn)?;
+    let taken = taken(alloc, state, form)?;
+    let files = taken.as_slice();
+    let handed = make(alloc, state, form, scn, files)?;
+    let made = jobs_of(alloc, files, scn)?;
     let jobs = made.as_slice();
-    let handed = make(alloc, state, form, jobs, scn)?;
     begin(alloc, state, edits, form, jobs)?;
     draw_id(state, edits)?;
     Ok(handed)

@@ -1,11 +1,11 @@
 //! A backup set of datafiles, its record, its bytes and what is told of it.
 ghost use Rattle.std.specs.Prelude.{◌≡◌, ◌++◌, All, IfOk, OnOk, length, map};
-ghost use Rattle.rm_machine.specs.{Backup.{part_of}, MadeSets.{member_by, set_entry_for, set_of}, State.{ledger}};
+ghost use Rattle.rm_machine.specs.{Backup.{part_of}, MadeSets.{member_by, set_entry_for, set_of, told_member}, State.{ledger}};
 ghost use Rattle.rm_piece.specs.{SetSpelling.{set_spelling, spelled}, Sets.{IsSet}, Valid.{IsPiece}};
-ghost use Rattle.rm_step_backup.specs.{Making.{made_by, member_of, told_member}, declared.reading.Read.TheVariants.{OfSeveral}};
+ghost use Rattle.rm_step_backup.specs.{Making.{made_by, member_of}, declared.reading.Read.TheVariants.{OfSeveral}};
 ghost use Rattle.sha2.specs.Sha256.{sha256};
 
-use crate::making::{Entry, Made, Told};
+use crate::making::{Entry, Made};
 use crate::pieces::piece_of;
 use crate::reading::FileRead;
 use rm_base::sealed::Encoded;
@@ -14,7 +14,7 @@ use rm_catalog::{SetEntry, SetPart};
 use rm_lang_statement::BackupForm;
 use rm_machine::facts::creation_of;
 use rm_machine::replies::{copied, shape_by};
-use rm_machine::{Job, State};
+use rm_machine::{FileBackup, Job, State};
 use rm_piece::{Set, SetFile, count_written, encode_set_with_digest, risen_rows};
 use rm_report::Packing;
 use std::alloc::Global;
@@ -46,12 +46,12 @@ fn spelled_rows(member: &SetFile) -> u32
 }
 
 // What is told of a member of a set, for which so many blocks were read.
-fn told_member(member: &SetFile, reads: u64) -> Told
+fn told_member(member: &SetFile, reads: u64) -> FileBackup
     requires valid { IsPiece member.now.piece }
     ensures { result ≡ told_member (record { member = member.now; reads = reads }) }
 {
     let piece = &member.piece;
-    Told {
+    FileBackup {
         packing: Packing::Set,
         file: piece.file,
         shape: shape_by(piece.kind, piece.from),
@@ -65,7 +65,7 @@ fn told_member(member: &SetFile, reads: u64) -> Told
 fn members_of(
     alloc: Global,
     state: &State,
-    told: &mut Seq<Told>,
+    told: &mut Seq<FileBackup>,
     form: &BackupForm,
     checkpoint: Scn,
     files: Vec<FileRead>,

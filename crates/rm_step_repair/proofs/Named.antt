@@ -2,19 +2,12 @@
 use Rattle.std.specs.Option.{option_and_then, option_map, option_map_or}
 use Rattle.std.proofs.Common.{◌≡◌, ◌<◌, ◌≤◌, ◌∙◌, inl, inr, ℕ, List, Option, Some, None, Bool, nat_le, refl, ap, sym, subst, arith, find, Contains}
 use Rattle.std.proofs.lemmas.Bool.{cases_lt, le-leb}
-use Rattle.rm_base.{specs.declared.refusal.Absent.{Absent}, proofs.Lists.{find_cases, find_none}}
+use Rattle.rm_base.{specs.declared.refusal.Absent.{Absent}, proofs.Lists.{find_none}}
 use Rattle.rm_base.specs.declared.refusal.Absent.TheVariants as absent
 use Rattle.rm_history.specs.declared.world.Datafile.{Datafile}
 use Rattle.rm_lang_statement.specs.declared.command.NamedBlocks.{NamedBlocks}
 use Rattle.rm_machine.specs.{BlockRecoverRefusal.{absent_named}, Sound.{IsSound}, State.{on_path}, declared.state.State.{State}}
 use Rattle.rm_machine.proofs.{Numbers.{numbered}, Tracked.{on-path}}
-
--- what a search finds is a member
-pub found-in : {X : Type 0} (p : X → Bool) (xs : List X) (x : X) → find p xs ≡ Some x → Contains xs x
-found-in p xs x is = elim (find_cases p xs) [
-  | inl none ↦ absurd (let clash : None ≡ Some x = sym none ∙ is in cc)
-  | inr found ↦ let same : found.item ≡ x = (let e : Some found.item ≡ Some x = sym found.is ∙ is in cc) in subst (Contains xs) same found.held
-]
 
 pub record IsNamed (n : NamedBlocks) : Type 0 where
   pub some : 0 < n.file

@@ -34,7 +34,7 @@ module _ (s : State) (sound : IsSound s) (rs : List Record) (records : rs ≡ re
 
   module _ (up : AllPairs (λ m n. m < n) ids) where
     pub ids-few : length ids < 2 ^ 32
-    ids-few = few-ids ids (each-id s (retention_of s e) ids sound exact) up
+    ids-few = few-ids (λ (n : ℕ). n) ids (each-id s (retention_of s e) ids sound exact) up
 
     pub obsolete-in : (held : Option Held) → IfSome held (λ h. IsAtHand s h e) → IfSome held (λ h. AreObsoleteIn s h ids)
     obsolete-in held here = IfSome_then held here (λ h at. record { evidence = e; at_hand = at; exact = exact; ascends = up })

@@ -1,6 +1,5 @@
 pub mod Dates
 pub mod Dumped
-pub mod Few
 pub mod IncarnationLines
 pub mod Listed
 pub mod Validated

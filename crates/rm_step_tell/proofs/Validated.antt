@@ -9,8 +9,7 @@ use Rattle.rm_report.specs.{Reply.{IsPlain}, declared.line.Line.{Line, TheVarian
 use Rattle.rm_catalog_typed.{specs.TypedCatalog.{records_of}, proofs.Members.{log-in, piece-in, set-in}}
 use Rattle.rm_lang_statement.specs.declared.command.Command.TheVariants.{ValidateAll}
 use Rattle.rm_machine.specs.{Effect.{told}, Hands.{Tells}, Sound.{IsSound}, State.{ledger}, Validate.{count_available}}
-use Rattle.rm_machine.specs.declared.state.State.{State}
-use Rattle.rm_step_tell.proofs.Few.{few}
+use Rattle.rm_machine.{specs.declared.state.State.{State}, proofs.Ids.{few-ids, log-id, piece-id, set-id, IsId}}
 
 -- the lines
 abbrev pub bad_lines : List (ℕ × Bad) → List Line
@@ -27,19 +26,17 @@ validated-dated lines bad count n is =
     (All-append IsPlain (bad_lines bad) (Checked count n ∷ []) (All-map IsPlain (λ (x : ℕ × Bad). BadOf x.0 x.1) bad (λ k d inside. tt)) (All-cons IsPlain (Checked count n) [] tt (All-nil IsPlain)))
 
 module _ (s : State) (sound : IsSound s) where
-  -- the id of a record that is bad is below the next one
-  bad-below : (held : Held) (id : ℕ) (bad : Bad) → IsSkipped held (records_of s.catalog) id bad → id < (ledger s).base.next_id
-  bad-below held _ _ (a_log l bad has status is) = (All-contains (λ (e : LogEntry). (1 ≤ e.id) × (e.id < (ledger s).base.next_id)) (ledger s).logs l sound.catalog.ledger.ids.logs (log-in s.catalog l sound.catalog has)).1
-  bad-below held _ _ (a_piece p bad has status is) = (All-contains (λ (e : PieceEntry). (1 ≤ e.id) × (e.id < (ledger s).base.next_id)) (ledger s).pieces p sound.catalog.ledger.ids.pieces (piece-in s.catalog p sound.catalog has)).1
-  bad-below held _ _ (a_set e bad has status is) = (All-contains (λ (x : SetEntry). (1 ≤ x.id) × (x.id < (ledger s).base.next_id)) (ledger s).sets e sound.catalog.ledger.ids.sets (set-in s.catalog e sound.catalog has)).1
+  -- a record that is bad has an id that can be one
+  bad-id : (held : Held) (id : ℕ) (bad : Bad) → IsSkipped held (records_of s.catalog) id bad → IsId id
+  bad-id held _ _ (a_log l bad has status is) = log-id s.catalog sound.catalog l (log-in s.catalog l sound.catalog has)
+  bad-id held _ _ (a_piece p bad has status is) = piece-id s.catalog sound.catalog p (piece-in s.catalog p sound.catalog has)
+  bad-id held _ _ (a_set e bad has status is) = set-id s.catalog sound.catalog e (set-in s.catalog e sound.catalog has)
 
   -- so they can be counted
   few-bad : (held : Held) (bad : List (ℕ × Bad)) → Lists Bad [] (IsSkipped held (records_of s.catalog)) bad → length bad < 2 ^ 32
   few-bad held bad lists =
-      let most = few lists.rest (ledger s).base.next_id lists.ascends (λ x has. bad-below held x.0 x.1 ((lists.exact x.0 x.1).0 has)) in
-      let same = ap length lists.list in
-      let top = sound.catalog.ledger.base.next_id.1 in
-      omega (arith, most, same, top)
+      let few = few-ids (λ (x : ℕ × Bad). x.0) lists.rest (λ x has. bad-id held x.0 x.1 ((lists.exact x.0 x.1).0 has)) lists.ascends in
+      subst (λ (n : ℕ). n < 2 ^ 32) (ap length (sym lists.list)) few
 
   pub validated : (held : Option Held) (rs : List Record) (bad : List (ℕ × Bad)) (count n : ℕ) (lines : List Line) → rs ≡ records_of s.catalog → IfSome held (λ h. Lists Bad [] (IsSkipped h rs) bad) → count ≡ count_available (ledger s) → (length bad < 2 ^ 32 → n ≡ length bad)
       → lines ≡ bad_lines bad ++ Checked count n ∷ [] → Tells held s ValidateAll lines

@@ -1,5 +1,5 @@
 use Rattle.std.proofs.Common.{◌≡◌, ◌++◌, map, take}
-use Rattle.rm_step_backup.specs.Making.{line_under}
+use Rattle.rm_machine.specs.MadePieces.{line_under}
 use Rattle.rm_step_backup.proofs.recording.tell_under.Given as goal
 
 abbrev pub invariant-loop-each : goal.invariant-loop-each

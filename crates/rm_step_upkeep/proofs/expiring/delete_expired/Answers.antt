@@ -11,7 +11,7 @@ drop_records-requires c =
     let slice = sym c.deref.ensures.value in
     record {
       some = subst (λ (ns : List ℕ). All (λ n. 1 ≤ n) ns) slice (some-ids c.in_ok-ids.ids.items each);
-      few = subst (λ (ns : List ℕ). length ns < 2 ^ 32) slice (few-ids c.in_ok-ids.ids.items each are.ascends);
+      few = subst (λ (ns : List ℕ). length ns < 2 ^ 32) slice (few-ids (λ (n : ℕ). n) c.in_ok-ids.ids.items each are.ascends);
     }
 
 pub returns-clause-hands : goal.returns-clause-hands
