@@ -1,7 +1,7 @@
 //! Sources and sinks to their end, at the limit of a script, and failing in mid-stream.
 use crate::broken::Broken;
 use rm_base::{Failed, Failing, MemSink, MemSource, NoMemory, Sink, Source};
-use rm_tool::ends::{MOST_BYTES, ReadFault, read_all};
+use rm_tool::ends::{MOST_SCRIPT_BYTES, ReadFault, read_all};
 use rm_tool::{ReadSource, WriteSink};
 use rm_tool_ends::write_all;
 use std::alloc::Global;
@@ -43,8 +43,8 @@ fn read_len(alloc: Global, len: usize) -> Result<Result<usize, ReadFault>, NoMem
 
 /// The longest script is read, and nothing longer.
 pub fn longest(alloc: Global) -> Result<bool, NoMemory> {
-    let is_read = read_len(alloc, MOST_BYTES)? == Ok(MOST_BYTES);
-    Ok(is_read && read_len(alloc, MOST_BYTES + 1)? == Err(ReadFault::TooLong))
+    let is_read = read_len(alloc, MOST_SCRIPT_BYTES)? == Ok(MOST_SCRIPT_BYTES);
+    Ok(is_read && read_len(alloc, MOST_SCRIPT_BYTES + 1)? == Err(ReadFault::TooLong))
 }
 
 /// A sink takes all, and fails past its room.

@@ -11,10 +11,10 @@ use rm_tool_ends::write_all;
 use std::alloc::Global;
 
 /// The most bytes of a script.
-pub const MOST_BYTES: usize = 4_194_304;
+pub const MOST_SCRIPT_BYTES: usize = 4_194_304;
 
 /// Reads to the end of the source, in pieces of at most 512 bytes. It stops at the first failure,
-/// and where more than [`MOST_BYTES`] bytes were taken. After want of memory nothing is known but
+/// and where more than [`MOST_SCRIPT_BYTES`] bytes were taken. After want of memory nothing is known but
 /// that the source's faults did not fall.
 pub fn read_all<S: Source>(alloc: Global, source: &mut S) -> Result<Vec<u8>, ReadFault>
     ensures taken { IfOk result (λ script. HasTaken (S.left source.old) (S.left source.new) script.items) }
@@ -31,7 +31,7 @@ pub fn read_all<S: Source>(alloc: Global, source: &mut S) -> Result<Vec<u8>, Rea
 {
     let mut script = Vec::new(alloc);
     let mut piece = [0u8; 512];
-    'reading: while script.len() <= MOST_BYTES {
+    'reading: while script.len() <= MOST_SCRIPT_BYTES {
         let n = source.read(&mut piece)?;
         if n == 0 {
             return Ok(script);
