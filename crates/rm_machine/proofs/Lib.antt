@@ -1,5 +1,6 @@
 pub mod AddingDatafile
 pub mod Archives
+pub mod Asking
 pub mod AtHand
 pub mod BackingUp
 pub mod BackingUpLogs
@@ -21,6 +22,7 @@ pub mod Enabled
 pub mod Enabling
 pub mod Ended
 pub mod Entries
+pub mod EveryStore
 pub mod Exchanging
 pub mod FirstTold
 pub mod Fitting

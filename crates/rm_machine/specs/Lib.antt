@@ -8,6 +8,7 @@ pub mod BlockRecover
 pub mod BlockRecoverRefusal
 pub mod Built
 pub mod CatalogName
+pub mod Comes
 pub mod Configure
 pub mod Corrupt
 pub mod CreateDatabase
@@ -18,6 +19,7 @@ pub mod Dump
 pub mod Effect
 pub mod EnableThread
 pub mod Events
+pub mod Faults
 pub mod Hands
 pub mod Honest
 pub mod Laws

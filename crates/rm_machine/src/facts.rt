@@ -1,5 +1,5 @@
 //! What a state shows.
-ghost use Rattle.std.specs.{Prelude.{◌≡◌, ◌<◌, ◌≤◌, ◌↔◌, IfSome, IsTrue, not}, Option.{option_copied}};
+ghost use Rattle.std.specs.{Prelude.{◌≡◌, ◌<◌, ◌≤◌, ◌↔◌, IfSome, IsTrue, not, unwrap_or}, Option.{option_copied}};
 ghost use Rattle.rm_base.specs.Numbers.{last_scn};
 ghost use Rattle.rm_history.specs.{Tree.{IsThere, end_of}, World.{blocks_of, creation_of, exists, file_of}};
 ghost use Rattle.rm_machine.specs.{Dump.{placed_row}, Mount.{first_lost}, Sound.{IsSound}};
@@ -153,4 +153,15 @@ pub fn first_lost(state: &State, i: IncNo, s: Scn) -> Option<FileNo>
         }
     }
     None
+}
+
+/// How many channels a statement has: as many as were asked for, or else as many as are configured. At least 1, and at most 16.
+pub fn channel_count(state: &State, asked: Option<u32>) -> u32
+    requires sound { IsSound state.now }
+    requires range { IfSome asked (λ n. (1 ≤ n) × (n ≤ 16)) }
+    ensures value { result ≡ unwrap_or asked (ledger state.now).base.parallelism }
+    ensures least { 1 ≤ result }
+    ensures most { result ≤ 16 }
+{
+    asked.unwrap_or(state.catalog.base().parallelism)
 }

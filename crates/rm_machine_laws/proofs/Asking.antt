@@ -1,26 +1,16 @@
--- What the state does not refuse has the ids of a save left, since these are asked for.
-use Rattle.std.specs.Option.{option_and_then, option_map_or}
-use Rattle.std.proofs.{Common.{◌≡◌, ◌+◌, ◌≤◌, ℕ, Option, Some, None, Bool, true, false, cond, refl, arith, rules}, lemmas.Bool.{le-ltb}}
-use Rattle.rm_base.specs.declared.refusal.{Refusal.{Refusal, TheVariants.{Rm03, Rm05, Rm09}}, Absent.TheVariants.{File}}
+-- What the state does not refuse has the ids of a save left, since these are asked for: each change.
+use Rattle.std.proofs.{Common.{◌≡◌, ◌+◌, ◌≤◌, ℕ, Some, None, Bool, true, false, cond, arith, rules}, lemmas.Bool.{le-ltb}}
+use Rattle.rm_base.specs.declared.refusal.{Refusal.{TheVariants.{Rm03, Rm05}}, Absent.TheVariants.{File}}
 use Rattle.rm_base.proofs.Conditions.{only-where, unless}
-use Rattle.rm_lang_statement.specs.declared.command.Command.{Command}
-use Rattle.rm_lang_statement.specs.declared.command.Command.TheVariants.{ArchiveLogCurrent, Backup, BackupFrom, ChangeBackup, Corrupt, CreateDatabase, CreateDatafile, Cut, Damage, DeleteBackup, DeleteExpired, LoseDatafile, LoseLog, Mount, OpenPlain, OpenResetlogs, Parallelism, Remove, Rename, ResetDatabase, Retention, SwitchLogfile, SwitchThread, Tracking, Write}
-use Rattle.rm_lang_statement.specs.declared.command.{RepairForm.{RepairForm}, Until.{Until}, WriteForm.{WriteForm}}
-use Rattle.rm_machine.specs.{Asked.{asked}, BackupRefusal.{absent_of, lost_of}}
-use Rattle.rm_machine.specs.BlockRecoverRefusal.{absent_named, lost_named, repair_refusal, repair_room_refusal}
+use Rattle.rm_lang_statement.specs.declared.command.{Command.{Command}, WriteForm.{WriteForm}}
+use Rattle.rm_lang_statement.specs.declared.command.Command.TheVariants.{ArchiveLogCurrent, Backup, BackupFrom, ChangeBackup, Corrupt, CreateDatabase, CreateDatafile, DeleteBackup, DeleteExpired, LoseDatafile, LoseLog, Mount, OpenPlain, OpenResetlogs, Parallelism, ResetDatabase, Retention, SwitchLogfile, SwitchThread, Tracking, Write}
 use Rattle.rm_machine.specs.{Corrupt.{corrupt_block_refusal, corrupt_refusal}, Marks.{ids_refusal, lacks_ids}, Nature.{nature_of}}
-use Rattle.rm_machine.specs.{Recover.{recover_refusal, target_refusal}, Restore.{place_refusal, restore_refusal}, Sound.{IsSound}}
-use Rattle.rm_machine.specs.{State.{current_of, is_no_thread, ledger, on_path}, Step.{refusal_of}}
+use Rattle.rm_machine.specs.{Sound.{IsSound}, State.{is_no_thread, ledger, on_path}, Step.{refusal_of}}
 use Rattle.rm_machine.specs.SwitchLogfile.{archive_refusal, is_due, switch_refusal}
-use Rattle.rm_machine.specs.Until.{nowhere_refusal, or_else, refusal_at, target_of, thread_refusal, until_refusal}
-use Rattle.rm_machine.specs.{Write.{block_refusal, write_refusal}, declared.nature.Nature.TheVariants.{Changes, Mishap}}
-use Rattle.rm_machine.{specs.declared.state.State.{State}, proofs.{BackupAccepted.{can-back_up}, Branching.{can-reset}}}
-use Rattle.rm_machine.proofs.{Disabling.{accepted}, Rolling.{can-roll}, Switching.{not-above}, Untils.{second-none}}
+use Rattle.rm_machine.specs.{Write.{block_refusal, write_refusal}, declared.{nature.Nature.TheVariants.{Changes}, state.State.{State}}}
+use Rattle.rm_machine.proofs.{Asking.{Asks, asks-ids, asks-of}, BackupAccepted.{can-back_up}, Branching.{can-reset}}
+use Rattle.rm_machine.proofs.{Disabling.{accepted}, Rolling.{can-roll}, Switching.{not-above}}
 use Rattle.rm_machine_laws.proofs.ArchivingAll.{room}
-
--- what is not refused so has them
-abbrev pub Asks : State → Option Refusal → Type 0
-Asks s o = o ≡ None → lacks_ids s 0 ≡ false
 
 -- where those of more objects are left, they are
 few-left : (s : State) (n : ℕ) → (ledger s).base.next_id + n + 68 ≤ 4294967295 → lacks_ids s 0 ≡ false
@@ -28,37 +18,6 @@ few-left s n most = le-ltb 4294967295 ((ledger s).base.next_id + 0 + 68) (omega 
 
 fewer-left : (s : State) (n : ℕ) → lacks_ids s n ≡ false → lacks_ids s 0 ≡ false
 fewer-left s n left = few-left s n (not-above 4294967295 ((ledger s).base.next_id + n + 68) left)
-
--- Conditions
-
-pub asks-of : {X : Type 0} (s : State) (f : X → Option Refusal) (r : Refusal) (o : Option X) → ((x : X) → Asks s (f x)) → Asks s (option_map_or f o (Some r))
-asks-of s f r None asks is = absurd (let clash : Some r ≡ None = is in cc)
-asks-of s f r (Some x) asks is = asks x is
-
-pub asks-else : (s : State) (o p : Option Refusal) → Asks s p → Asks s (or_else o p)
-asks-else s None p asks is = asks is
-asks-else s (Some r) p asks is = absurd (let clash : Some r ≡ None = is in cc)
-
--- the first that has a value has none
-first-none : {X : Type 0} (o p : Option X) → or_else o p ≡ None → o ≡ None
-first-none None p none = refl
-first-none (Some x) p none = absurd (cc)
-
-pub asks-more : {X : Type 0} (s : State) (r : X → Refusal) (o : Option X) (p : Option Refusal) → Asks s p → Asks s (option_map_or (λ x. Some (r x)) o p)
-asks-more s r None p asks is = asks is
-asks-more s r (Some x) p asks is = absurd (let clash : Some (r x) ≡ None = is in cc)
-
-pub asks-ids : (s : State) → Asks s (ids_refusal s)
-asks-ids s is = search rules
-
--- a statement with an UNTIL asks by its target, or without one
-until-asks : (s : State) (i : ℕ) (until : Option Until) (by_target : ℕ → Option Refusal) (otherwise : Option Refusal) → ((at : ℕ) → Asks s (by_target at)) → Asks s otherwise → Asks s (until_refusal s i until by_target otherwise)
-until-asks s i until by_target otherwise by other none =
-    decide (target_of s i until) (second-none (thread_refusal s until) (refusal_at s i until by_target otherwise) none)
-  where
-    decide : (o : Option ℕ) → option_map_or by_target o (or_else otherwise (nowhere_refusal s until)) ≡ None → lacks_ids s 0 ≡ false
-    decide None is = other (first-none otherwise (nowhere_refusal s until) is)
-    decide (Some at) is = by at is
 
 -- Statements
 
@@ -72,25 +31,6 @@ pub corrupt-asks : (f b : ℕ) (s : State) → Asks s (corrupt_refusal s f b)
 corrupt-asks f b s is =
     let mode = only-where s.instance.is_open _ _ is in
     asks-of s (corrupt_block_refusal s f b) (Rm05 (File f)) (on_path s f) (λ d none. search rules) mode.1
-
-room-asks : (s : State) (form : RepairForm) → Asks s (repair_room_refusal s form)
-room-asks s form is = search rules
-
-pub repair-asks : (form : RepairForm) (s : State) → Asks s (repair_refusal s form)
-repair-asks form s is =
-    let mode = only-where s.instance.is_open _ _ is in
-    asks-more s (λ a. Rm05 a) (option_and_then (absent_named s) form.blocks) _
-    (asks-more s (λ a. Rm05 a) (absent_of s (asked form.during)) _
-    (asks-more s (λ f. Rm09 f) (option_and_then (lost_named s) form.blocks) _
-    (asks-more s (λ f. Rm09 f) (lost_of s (asked form.during)) _ (room-asks s form)))) mode.1
-
-pub recover-asks : (until : Option Until) (s : State) → Asks s (recover_refusal s until)
-recover-asks until s is =
-    until-asks s (current_of s) until (target_refusal s) (ids_refusal s) (λ at. asks-else s _ _ (asks-else s _ _ (asks-ids s))) (asks-ids s) (unless s.instance.is_open _ _ is).1
-
-pub restore-asks : (file : Option ℕ) (until : Option Until) (s : State) → Asks s (restore_refusal s file until)
-restore-asks file until s is =
-    until-asks s (current_of s) until (place_refusal s file) (ids_refusal s) (λ at. asks-else s _ _ (asks-else s _ _ (asks-ids s))) (asks-ids s) (unless s.instance.is_open _ _ is).1
 
 -- what archives asks for more
 archive-asks : (s : State) (t : ℕ) → Asks s (archive_refusal s t)
@@ -129,10 +69,3 @@ change-asks (LoseDatafile f) s nature sound is = search rules
 change-asks (LoseLog t) s nature sound is = search rules
 change-asks (Corrupt f b) s nature sound is = corrupt-asks f b s is
 change-asks c s nature sound is = absurd (cc)
-
-pub mishap-asks : (c : Command) (s : State) → nature_of c ≡ Mishap → Asks s (refusal_of s c)
-mishap-asks (Remove name) s nature is = asks-ids s is
-mishap-asks (Damage name at) s nature is = asks-ids s is
-mishap-asks (Cut name to) s nature is = asks-ids s is
-mishap-asks (Rename old new) s nature is = asks-ids s is
-mishap-asks c s nature is = absurd (cc)

@@ -33,8 +33,8 @@ use Rattle.rm_machine.specs.Upkeep.{changed_to, log_at, log_changed, piece_at, p
 use Rattle.rm_machine.{specs.{Write.{with_write}, declared.state.State.{State}}, proofs.{Untils.{until-none}, Archives.{Took, took-thread}}}
 use Rattle.rm_machine.proofs.{BackingUp.{base-at_end, objects-many}, BackupAccepted.{can-back_up}, Recording.{next-id}}
 use Rattle.rm_machine.proofs.{BackingUpLogs.{after_copies, room-for}, Branching.{can-reset}, Disabling.{accepted}, Rolling.{can-roll}}
-use Rattle.rm_machine.proofs.{Switching.{not-above}, Walk.{events-same}}
-use Rattle.rm_machine_laws.proofs.{ArchivingAll.{room}, Asking.{Asks, asks-else, asks-ids, corrupt-asks, repair-asks, write-asks}}
+use Rattle.rm_machine.proofs.{Asking.{Asks, asks-else, asks-ids, repair-asks}, Switching.{not-above}, Walk.{events-same}}
+use Rattle.rm_machine_laws.proofs.{ArchivingAll.{room}, Asking.{corrupt-asks, write-asks}}
 use Rattle.rm_machine_laws.proofs.{BackingUpLogs.{done-of}, Mishaps.{IsMishap, cut-by, damaged-by, removed-by, renamed-by}}
 use Rattle.rm_machine_laws.proofs.{Leading.{done-by}, Renewals.{leaves-renewed}, Telling.{never-done}}
 

@@ -1,9 +1,9 @@
 -- What the state refuses, and how it is answered.
-use Rattle.std.specs.Prelude.{ℕ, ◌≡◌, nat_lt, if◌then◌else◌, Bool, true, Option, Some, None}
+use Rattle.std.specs.Prelude.{ℕ, ◌≡◌, nat_lt, if◌then◌else◌, true, Option, Some, None}
 use Rattle.rm_base.specs.declared.refusal.{Refusal.{Refusal, TheVariants.{Rm02, Rm11}}, Limit.TheVariants.{Threads}}
 use Rattle.rm_lang_statement.specs.declared.command.Command.{Command, TheVariants.{CreateDatabase}}
 use Rattle.rm_report.specs.{Reply.{refused_by}, declared.line.Reply.{Reply}}
-use Rattle.rm_machine.specs.{Nature.{nature_of, tries}, State.{at_moment}, Step.{refusal_of}, declared.state.State.{State}}
+use Rattle.rm_machine.specs.{Comes.{looks_at_objects}, State.{at_moment}, Step.{refusal_of}, declared.state.State.{State}}
 
 -- why CREATE DATABASE is refused where there is no database
 abbrev pub create_refusal : ℕ → Option Refusal
@@ -18,10 +18,6 @@ refusal_without _ = Some Rm02
 abbrev pub refusal_in : Option State → Command → ℕ → Option Refusal
 refusal_in None c moment = refusal_without c
 refusal_in (Some s) c moment = refusal_of (at_moment s moment) c
-
--- what the objects hold may refuse it too
-abbrev pub looks_at_objects : Command → Bool
-looks_at_objects c = tries (nature_of c)
 
 -- The state did not refuse the statement: only what the objects hold may, and that changes nothing.
 pub record IsAccepted {S : Type 0} (c : Command) (reply : Reply) (s t : S) : Type 0 where

@@ -2,21 +2,16 @@
 use Rattle.std.proofs.Common.{◌≡◌, false, Option, Some, None, refl, ap, sym, subst}
 use Rattle.rm_base.specs.Store.{Held}
 use Rattle.rm_lang_statement.specs.declared.command.Command.{Command}
-use Rattle.rm_machine.specs.{Hands.{Hands}, Laws.{only_tells}, Nature.{nature_of, tells}, Sound.{IsSound}, Step.{IsStatement, refusal_of}}
-use Rattle.rm_machine.specs.declared.{handed.Handed.{Handed}, state.State.{State}, nature.Nature.TheVariants.{Changes, Mishap}}
+use Rattle.rm_machine.specs.{Comes.{IsAnswer, IsRefusedBy}, Hands.{Hands}, Laws.{only_tells}, Nature.{nature_of, tells}}
+use Rattle.rm_machine.specs.{Sound.{IsSound}, Step.{IsStatement, refusal_of}, declared.answer.Answer.TheVariants.{Done}}
+use Rattle.rm_machine.specs.declared.{handed.Handed.{Handed}, state.State.{State}, nature.Nature.TheVariants.{Changes}}
+use Rattle.rm_machine.proofs.EveryStore.{nothing}
 use Rattle.rm_machine_laws.proofs.{Asking.{change-asks}, Every.{every-stays}}
-use Rattle.rm_site.{specs.{Comes.{IsAnswer, IsRefusedBy}, declared.statement.Answer.TheVariants.{Done}}, proofs.DatedLines.{change-dated}}
+use Rattle.rm_site.proofs.DatedLines.{change-dated}
 
--- a store that holds nothing: what is so of every store is so of it
-pub nothing : Held
-nothing name = None
-
--- a change does more than tell, and so does a mishap
+-- a change does more than tell
 change-does : (c : Command) → nature_of c ≡ Changes → only_tells c ≡ false
 change-does c change = ap tells change
-
-pub mishap_does : (c : Command) → nature_of c ≡ Mishap → only_tells c ≡ false
-mishap_does c mishap = ap tells mishap
 
 module _ (held : Option Held) (s : State) (c : Command) (accepted : refusal_of s c ≡ None) (sound : IsSound s) where
   -- it is a change, and no store says anything of it

@@ -9,16 +9,16 @@ use Rattle.rm_lang_statement.specs.declared.command.Command.{Command}
 use Rattle.rm_report.specs.{Reply.{refused_by, said}, declared.line.{Line.{Line}, Reply.{Reply}}}
 use Rattle.rm_catalog_typed.specs.{Changes.{EditsFollow, with_moment, without_saved}, Facts.{IsTypedCatalog}}
 use Rattle.rm_catalog_typed.specs.{TypedCatalog.{TypedCatalog, Saved, records_of}, Starting.{with_earlier}}
-use Rattle.rm_machine.specs.{Effect.{done, refused, told}, Laws.{only_tells}, Sound.{IsSound}, State.{at_moment, ledger}}
-use Rattle.rm_machine.specs.{Step.{IsOutcome, IsOutcomeBy, IsStatement, Step, refusal_of}, Saved.{saved_names}}
+use Rattle.rm_machine.specs.{Comes.{ComesTo, IsRefusedBy}, Effect.{done, refused, told}, Laws.{only_tells}, Sound.{IsSound}}
+use Rattle.rm_machine.specs.{State.{at_moment, ledger}, Step.{IsOutcome, IsOutcomeBy, IsStatement, Step, refusal_of}, Saved.{saved_names}}
+use Rattle.rm_machine.specs.declared.answer.Answer.{Answer, TheVariants.{Refused, Told, Done}}
 use Rattle.rm_machine.{specs.declared.{handed.Handed.{Handed}, state.State.{State}}, proofs.Later.{sound-later}}
 use Rattle.rm_machine_laws.specs.{Carries.{IsHanded, IsOutcomeIn}, Holds.{View, records_in}, Moments.{IsMomentIn, moment_of}}
 use Rattle.rm_machine_laws.specs.{Refused.{AnsweredBy, refusal_in}, Saves.{applies}, Steps.{IsStepAt, Steps, StepsAt}}
 use Rattle.rm_machine_laws.{specs.Stopped.{IsStopAt, Stopped, Stops, StopsAt}, proofs.Leading.{stays as keeps-sound}}
 use Rattle.rm_machine_laws.proofs.Carried.{carried-on, refused-step, told-step}
 use Rattle.rm_machine_laws.proofs.{Every.{every-leads, every-loose, every-stays, every-tells}, Halting.{halts, nothing-done}}
-use Rattle.rm_site.specs.{Comes.{ComesTo, IsRefusedBy}, Untouched.{AreSame}, declared.statement.Answer.{Answer}}
-use Rattle.rm_site.specs.declared.statement.Answer.TheVariants.{Refused, Told, Done}
+use Rattle.rm_site.specs.Untouched.{AreSame}
 
 pub no_more_names : (names : List (List ℕ)) → names ≡ names ++ []
 no_more_names names = sym (append-nil names)

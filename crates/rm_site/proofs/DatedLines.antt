@@ -6,12 +6,11 @@ use Rattle.rm_base.specs.Store.{Held}
 use Rattle.rm_lang_statement.specs.declared.command.{BackupForm.{BackupForm}, Command.{Command}}
 use Rattle.rm_lang_statement.specs.declared.command.Command.TheVariants.{ArchiveLogCurrent, Backup, BackupFrom, BackupLogs, BlockRecover, CatalogName, ChangeBackup, Corrupt, CreateDatabase, CreateDatafile, Crosscheck, Cut, Damage, DeleteBackup, DeleteExpired, DeleteObsolete, Dump, ListArchived, ListBackup, ListCopy, ListCorruption, ListIncarnation, LoseDatafile, LoseLog, Mount, OpenPlain, OpenResetlogs, Parallelism, Preview, Recover, RecoverCopy, RecoverTest, Remove, Rename, ReportNeedBackup, ReportObsolete, ReportSchema, ResetDatabase, Restore, Retention, ShowAll, SwitchLogfile, SwitchThread, Tracking, ValidateAll, Write}
 use Rattle.rm_lang_statement.specs.declared.command.ChangeTo.{ChangeTo, TheVariants.{Available, Keep, NoKeep, Unavailable, Uncatalog}}
-use Rattle.rm_history.specs.declared.tree.Incarnation.{Incarnation}
 use Rattle.rm_report.specs.{Reply.{HasDate, IsPlain}, declared.line.Line.{Line, TheVariants.{Deleted, ThreadScn}}}
 use Rattle.rm_machine.specs.{Archive.{after_thread, lines_from, thread_lines}, Backup.{or_nothing}, BackupOutcome.{at_end, write_lines}}
-use Rattle.rm_machine.specs.{Effect.{Effect, Outcome, done, no_effect, refused, told}, ListIncarnation.{incarnation_lines}}
+use Rattle.rm_machine.specs.Effect.{Effect, Outcome, done, no_effect, refused, told}
 use Rattle.rm_machine.specs.MadeObjects.{Packed, after_object, alone, in_set, lines_of, object_lines, packed}
-use Rattle.rm_machine.specs.{MadeSets.{InSet, member_line}, State.{current_of, ledger, now_of, online, tree}, Step.{IsDone}}
+use Rattle.rm_machine.specs.{MadeSets.{InSet, member_line}, State.{ledger, now_of, online}, Step.{IsDone}}
 use Rattle.rm_machine.specs.{SwitchLogfile.{archived, is_due, made_lines, none_lines, with_archived}, Upkeep.{change_line}}
 use Rattle.rm_machine.specs.{Nature.{nature_of}, declared.{state.State.{State}, nature.Nature.TheVariants.{Changes}}}
 
@@ -35,7 +34,7 @@ if-dated : (b : Bool) (xs ys : List Line) → AreDated xs → AreDated ys → Ar
 if-dated true xs ys one two = one
 if-dated false xs ys one two = two
 
--- The lines of archiving, of a backup and of incarnations
+-- The lines of archiving and of a backup
 
 thread-dated : (all : Bool) (s : State) (t : ℕ) → AreDated (thread_lines all s t)
 thread-dated all s t = search (if-dated, one-dated, none-dated)
@@ -67,10 +66,6 @@ writes-dated t (one ∷ scns) = join-dated (map (λ scn. ThreadScn t scn) one) (
 nothing-dated : (lines : List Line) → AreDated lines → AreDated (or_nothing lines)
 nothing-dated [] dated = one-dated _ tt
 nothing-dated (line ∷ lines) dated = dated
-
-incarnations-dated : (ns : List Incarnation) (current i n : ℕ) → AreDated (incarnation_lines ns current i n)
-incarnations-dated ns current i zero = none-dated
-incarnations-dated ns current i (suc n) = more-dated _ _ tt (incarnations-dated ns current (i + 1) n)
 
 -- The lines of upkeep
 
@@ -156,10 +151,3 @@ every-dated (Rename old new) s objects o change is = absurd (cc)
 -- what a change says
 pub change-dated : (c : Command) (s : State) (objects : Held) (lines : List Line) (e : Effect) (t : State) → nature_of c ≡ Changes → IsDone s objects c (done lines e t) → All IsPlain lines
 change-dated c s objects lines e t change is = (every-dated c s objects (done lines e t) change is).dates
-
--- what LIST INCARNATION and DUMP tell
-pub list-dated : (s : State) (lines : List Line) (objects : Held) → IsDone s objects ListIncarnation (told lines) → All IsPlain lines
-list-dated s lines objects is = (by (told lines) _ is (incarnations-dated (tree s) (current_of s) 1 (length (tree s)))).dates
-
-pub dump-dated : (file block : ℕ) (s : State) (lines : List Line) (objects : Held) → IsDone s objects (Dump file block) (told lines) → All IsPlain lines
-dump-dated file block s lines objects is = (by (told lines) _ is.2 (one-dated _ tt)).dates

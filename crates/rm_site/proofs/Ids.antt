@@ -1,32 +1,13 @@
 -- What was applied had the ids of a save left.
-use Rattle.std.proofs.Common.{◌≡◌, ◌∙◌, not, true, false, List, Option, None, ℕ, ap, sym, subst}
+use Rattle.std.proofs.Common.{◌≡◌, ◌∙◌, not, true, false, List, Option, ℕ, ap, sym, subst}
 use Rattle.rm_base.specs.declared.refusal.Refusal.{Refusal}
 use Rattle.rm_catalog_typed.specs.TypedCatalog.{Saved, TypedCatalog}
-use Rattle.rm_lang_statement.specs.declared.command.{Command.{Command}, RepairForm.{RepairForm}, Until.{Until}}
-use Rattle.rm_machine.specs.{BlockRecoverRefusal.{repair_refusal}, Laws.{only_tells}, Marks.{lacks_ids}, Nature.{nature_of, tells}}
-use Rattle.rm_machine.specs.{Recover.{recover_refusal}, Restore.{restore_refusal}, Step.{refusal_of}, declared.handed.Handed.{Handed}}
-use Rattle.rm_machine.specs.declared.{nature.Nature.TheVariants.{Mishap, TellsState}, state.State.{State}}
-use Rattle.rm_machine_laws.{specs.Saves.{applies}, proofs.Asking.{mishap-asks, recover-asks, repair-asks, restore-asks}}
+use Rattle.rm_lang_statement.specs.declared.command.Command.{Command}
+use Rattle.rm_machine.specs.{Comes.{DoesMore, HadIds}, Laws.{only_tells}, Marks.{lacks_ids}}
+use Rattle.rm_machine.specs.declared.{answer.Answer.{Answer, TheVariants.{Done, Told}}, handed.Handed.{Handed}, state.State.{State}}
+use Rattle.rm_machine_laws.specs.Saves.{applies}
 use Rattle.rm_report.specs.{Reply.{refused_by, said}, declared.line.{Line.{Line}, Reply.{Reply}}}
-use Rattle.rm_site.specs.{Comes.{DoesMore, HadIds}, declared.statement.Answer.{Answer, TheVariants.{Done, Told}}}
 use Rattle.rm_site.proofs.Answering.{Begins}
-
--- what the state does not refuse has them
-pub mishap_ids : (c : Command) (s : State) → nature_of c ≡ Mishap → refusal_of s c ≡ None → lacks_ids s 0 ≡ false
-mishap_ids c s nature accepted = mishap-asks c s nature accepted
-
-pub recover_ids : (s : State) (until : Option Until) → recover_refusal s until ≡ None → lacks_ids s 0 ≡ false
-recover_ids s until accepted = recover-asks until s accepted
-
-pub restore_ids : (s : State) (file : Option ℕ) (until : Option Until) → restore_refusal s file until ≡ None → lacks_ids s 0 ≡ false
-restore_ids s file until accepted = restore-asks file until s accepted
-
-pub repair_ids : (s : State) (form : RepairForm) → repair_refusal s form ≡ None → lacks_ids s 0 ≡ false
-repair_ids s form accepted = repair-asks form s accepted
-
--- what tells of the state only tells
-pub state_tells : (c : Command) → nature_of c ≡ TellsState → only_tells c ≡ true
-state_tells c nature = ap tells nature
 
 -- a refusal applies nothing, and neither does what only tells
 pub refused-applies : (c : Command) (q : Refusal) (reply : Reply) → reply ≡ refused_by q → applies c reply ≡ true → ⊥

@@ -3,10 +3,11 @@ use Rattle.std.proofs.{Common.{◌≡◌, ◌∙◌, ◌&&◌, ◌||◌, not, Bo
 use Rattle.rm_base.specs.Store.{Held}
 use Rattle.rm_catalog.specs.declared.record.Record.{Record}
 use Rattle.rm_lang_statement.specs.declared.command.Command.{Command}
-use Rattle.rm_machine.specs.{Laws.{only_tells}, declared.{handed.Handed.{Handed}, state.State.{State}}}
+use Rattle.rm_machine.specs.{Comes.{DoesMore}, Laws.{only_tells}}
+use Rattle.rm_machine.specs.declared.{answer.Answer.{Answer, TheVariants.{Done}}, handed.Handed.{Handed}, state.State.{State}}
 use Rattle.rm_machine_laws.specs.{Holds.{View}, Saves.{applies}}
 use Rattle.rm_report.specs.{Reply.{said}, declared.line.{Line.{Line}, Reply.{Reply}}}
-use Rattle.rm_site.specs.{Comes.{DoesMore}, Untouched.{IsUntouched, is_quiet}, declared.statement.Answer.{Answer, TheVariants.{Done}}}
+use Rattle.rm_site.specs.Untouched.{IsUntouched, is_quiet}
 
 -- a reply that is no refusal, to a statement that does more than tell, is not quiet
 pub not-quiet : (c : Command) (reply : Reply) (lines : List Line) → only_tells c ≡ false → reply ≡ said lines → is_quiet c reply ≡ true → ⊥

@@ -1,11 +1,9 @@
--- Which fault a failed call makes of the opening of a site, and which stop of a statement.
+-- Which fault a failed call makes of the opening of a site.
 use Rattle.std.specs.Prelude.{List}
 use Rattle.rm_catalog.specs.{Faults.{IsBadRow}, declared.{catalog.CatalogFault.{CatalogFault}, keeper.KeeperFail.{KeeperFail}}}
 use Rattle.rm_catalog.specs.declared.record.Record.{Record}
 use Rattle.rm_catalog.specs.declared.catalog.CatalogFault.TheVariants as catalog
 use Rattle.rm_catalog.specs.declared.keeper.KeeperFail.TheVariants as keeper
-use Rattle.rm_commit.specs.declared.commit.Stop.{Stop}
-use Rattle.rm_commit.specs.declared.commit.Stop.TheVariants as stop
 use Rattle.rm_evidence.specs.declared.gathering.EvidenceFault.{EvidenceFault}
 use Rattle.rm_evidence.specs.declared.gathering.EvidenceFault.TheVariants as evidence
 use Rattle.rm_site.specs.{Opens.{AreValid}, declared.open.OpenFault.{OpenFault, TheVariants.{BadRow, StoreFault, KeeperFault, NoMemory}}}
@@ -31,8 +29,3 @@ IsBadFirst (BadRow kind id) rs = IsBadRow rs (catalog.BadRow kind id)
 IsBadFirst StoreFault rs = AreValid rs
 IsBadFirst KeeperFault rs = Unit {0}
 IsBadFirst NoMemory rs = Unit {0}
-
--- a fault at what the store holds is one of the store, or no memory
-abbrev pub stop_of : EvidenceFault → Stop
-stop_of evidence.StoreFault = stop.StoreFault
-stop_of evidence.NoMemory = stop.NoMemory

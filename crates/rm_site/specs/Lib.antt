@@ -1,4 +1,3 @@
-pub mod Comes
 pub mod ComesOut
 pub mod Faults
 pub mod Opens

@@ -5,12 +5,11 @@ ghost use Rattle.rm_machine.specs.{Hands.{Hands}, Nature.{nature_of}, Sound.{IsS
 ghost use Rattle.rm_machine.specs.declared.nature.Nature.TheVariants.{Changes};
 ghost use Rattle.rm_catalog_typed.specs.Changes.{EditsFollow};
 
-use crate::channels::channel_count;
 use rm_base::NoMemory;
 use rm_catalog::Edit;
 use rm_channel::Gate;
 use rm_lang_statement::Command;
-use rm_machine::{Handed, State};
+use rm_machine::{Handed, State, channel_count};
 use std::alloc::Global;
 use std::sync::Wait;
 use std::thread::Threads;

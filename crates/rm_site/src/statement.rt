@@ -3,37 +3,21 @@ ghost use Rattle.std.specs.Prelude.{◌≡◌, ◌≤◌, None, IfOk, IsTrue, Is
 ghost use Rattle.rm_base.specs.Outside.{Rose};
 ghost use Rattle.rm_commit.specs.declared.commit.Stop.TheVariants.{StoreFault, KeeperFault};
 ghost use Rattle.rm_catalog_typed.specs.Changes.{EditsFollow};
-ghost use Rattle.rm_machine.specs.{Built.{is_built}, Nature.{nature_of}, Sound.{IsSound}, Step.{IsStatement, refusal_of}};
+ghost use Rattle.rm_machine.specs.{Built.{is_built}, Comes.{AnswersPlainly, ComesTo, DoesMore, HadIds, IsAnswer, IsRefusedBy}};
+ghost use Rattle.rm_machine.specs.{Nature.{nature_of}, Sound.{IsSound}, Step.{IsStatement, refusal_of}};
 ghost use Rattle.rm_machine.specs.declared.nature.Nature.TheVariants.{ChangesByHeld, TellsHeld, TestsHeld, TriesByHeld};
-ghost use Rattle.rm_site.specs.Comes.{AnswersPlainly, ComesTo, DoesMore, HadIds, IsAnswer, IsRefusedBy};
 
 use crate::changing::change;
 use crate::refusing::refusal_of;
-use crate::{
-    step_backup, step_copies, step_host, step_recover, step_repair, step_retain, step_tell,
-    step_upkeep,
-};
-use rm_base::{Refusal, Seq, Store};
+use rm_base::Store;
 use rm_catalog::Edit;
 use rm_channel::Gate;
 use rm_commit::Stop;
 use rm_lang_statement::Command;
-use rm_machine::{Handed, Nature, State, nature_of};
-use rm_report::Line;
+use rm_machine::{Answer, Nature, State, nature_of};
 use std::alloc::Global;
 use std::sync::Wait;
 use std::thread::Threads;
-
-/// What a statement comes to.
-#[derive(Drop)]
-pub(crate) enum Answer {
-    /// It is refused, and nothing changed.
-    Refused(Refusal),
-    /// It only tells, and nothing changed.
-    Told(Seq<Line>),
-    /// It is done, but for what is carried out.
-    Done(Handed),
-}
 
 // What a statement comes to that tells of what the store has, and that the state does not refuse.
 fn tell_held<R: Threads + Sync, D: Store>(
@@ -56,11 +40,15 @@ fn tell_held<R: Threads + Sync, D: Store>(
 {
     match command {
         Command::Preview { until } => {
-            step_recover::preview(rt, alloc, channels, state, store, until)
+            rm_step_recover::answer::preview(rt, alloc, channels, state, store, until)
         }
-        Command::ValidateAll => step_tell::validate(rt, alloc, channels, state, store),
-        Command::ReportObsolete => step_retain::tell_obsolete(rt, alloc, channels, state, store),
-        Command::ReportNeedBackup => step_retain::tell_needs(rt, alloc, channels, state, store),
+        Command::ValidateAll => rm_step_tell::answer::validate(rt, alloc, channels, state, store),
+        Command::ReportObsolete => rm_step_retain::answer::tell_obsolete(
+            rt, alloc, channels, state, store,
+        ),
+        Command::ReportNeedBackup => rm_step_retain::answer::tell_needs(
+            rt, alloc, channels, state, store,
+        ),
         _ => unreachable!(),
     }
 }
@@ -86,7 +74,7 @@ fn test_held<R: Threads + Sync, D: Store>(
 {
     match command {
         Command::RecoverTest { until, inc } => {
-            step_recover::recover_test(rt, alloc, channels, state, store, until, *inc)
+            rm_step_recover::answer::recover_test(rt, alloc, channels, state, store, until, *inc)
         }
         _ => unreachable!(),
     }
@@ -114,11 +102,15 @@ fn change_by_held<R: Threads + Sync, D: Store>(
     ensures never_falls { D.faults store.old ≤ D.faults store.new }
 {
     match command {
-        Command::Restore { file, until } => step_recover::restore(
+        Command::Restore { file, until } => rm_step_recover::answer::restore(
             rt, alloc, channels, state, store, *file, until,
         ),
-        Command::Crosscheck { class } => step_upkeep::check(alloc, state, store, edits, *class),
-        Command::DeleteObsolete => step_retain::clear(rt, alloc, channels, state, store, edits),
+        Command::Crosscheck { class } => rm_step_upkeep::answer::check(
+            alloc, state, store, edits, *class,
+        ),
+        Command::DeleteObsolete => rm_step_retain::answer::clear(
+            rt, alloc, channels, state, store, edits,
+        ),
         _ => unreachable!(),
     }
 }
@@ -146,14 +138,16 @@ fn try_by_held<R: Threads + Wait + Sync, D: Store>(
     ensures never_falls { D.faults store.old ≤ D.faults store.new }
 {
     match command {
-        Command::Recover { until } => step_recover::recover(
+        Command::Recover { until } => rm_step_recover::answer::recover(
             rt, alloc, channels, state, store, until,
         ),
-        Command::RecoverCopy { tag, until } => step_copies::renew(
+        Command::RecoverCopy { tag, until } => rm_step_copies::answer::renew(
             rt, alloc, channels, state, store, edits, tag, until,
         ),
-        Command::BackupLogs => step_backup::back_up_logs(alloc, state, store, edits),
-        Command::BlockRecover(form) => step_repair::mend(rt, alloc, state, store, edits, form),
+        Command::BackupLogs => rm_step_backup::answer::back_up_logs(alloc, state, store, edits),
+        Command::BlockRecover(form) => rm_step_repair::answer::mend(
+            rt, alloc, state, store, edits, form,
+        ),
         _ => unreachable!(),
     }
 }
@@ -184,7 +178,7 @@ fn accepted<R: Threads + Wait + Sync, G: Gate, D: Store>(
 {
     match nature_of(command) {
         Nature::Unbuilt => unreachable!(),
-        Nature::TellsState => Ok(step_tell::tell(alloc, state, command)?),
+        Nature::TellsState => Ok(rm_step_tell::answer::tell(alloc, state, command)?),
         Nature::TellsHeld => tell_held(rt, alloc, channels, state, store, command),
         Nature::TestsHeld => test_held(rt, alloc, channels, state, store, command),
         Nature::Changes => Ok(Answer::Done(change(
@@ -194,8 +188,8 @@ fn accepted<R: Threads + Wait + Sync, G: Gate, D: Store>(
             change_by_held(rt, alloc, channels, state, store, edits, command)
         }
         Nature::TriesByHeld => try_by_held(rt, alloc, channels, state, store, edits, command),
-        Nature::Records => step_upkeep::record(alloc, state, store, edits, command),
-        Nature::Mishap => step_host::mishap(alloc, state, store, command),
+        Nature::Records => rm_step_upkeep::answer::record(alloc, state, store, edits, command),
+        Nature::Mishap => rm_step_host::answer::mishap(alloc, state, store, command),
     }
 }
 

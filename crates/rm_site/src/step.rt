@@ -14,7 +14,7 @@ ghost use Rattle.rm_site.specs.{ComesOut.{ComesOut}, Untouched.{AreSame, IsUntou
 use crate::create::{first_records, lines_of, new_database, refusal_without};
 use crate::moment::moment_of;
 use crate::site::Site;
-use crate::statement::{Answer, come_to};
+use crate::statement::come_to;
 use rm_base::{Moment, NoMemory, Seq, Store, Text};
 use rm_catalog::{Keeper, PartEntry};
 use rm_catalog_typed::Saved;
@@ -22,7 +22,7 @@ use rm_channel::Gate;
 use rm_commit::{Commit, Stop, carry_out};
 use rm_evidence::site_name;
 use rm_lang_statement::Command;
-use rm_machine::{Handed, State, only_tells};
+use rm_machine::{Answer, Handed, State, only_tells};
 use rm_report::{Line, Reply, refusal_reply};
 use std::alloc::Global;
 use std::mem;

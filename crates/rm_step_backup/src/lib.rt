@@ -2,6 +2,7 @@
 //! BACKUP INCREMENTAL FROM SCN.
 #![tactic(auto)]
 
+pub mod answer;
 mod asking;
 mod datafiles;
 mod jobs;

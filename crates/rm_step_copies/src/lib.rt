@@ -1,6 +1,7 @@
 //! RECOVER COPY OF DATABASE WITH TAG: image copies take over level 1s.
 #![tactic(auto)]
 
+pub mod answer;
 mod evidence;
 mod limits;
 mod refusing;

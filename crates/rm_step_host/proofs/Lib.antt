@@ -1,2 +1,3 @@
 pub mod Corrupted
 pub mod Handing
+pub mod Mishaps

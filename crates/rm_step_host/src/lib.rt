@@ -2,6 +2,7 @@
 //! damaged, is cut short or has another name.
 #![tactic(auto)]
 
+pub mod answer;
 mod corrupting;
 mod losing;
 mod objects;

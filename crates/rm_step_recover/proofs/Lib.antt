@@ -2,6 +2,7 @@ pub mod Dates
 pub mod FileLines
 pub mod Files
 pub mod Handing
+pub mod Ids
 pub mod OriginLines
 pub mod Over
 pub mod Records

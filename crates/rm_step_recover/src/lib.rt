@@ -2,6 +2,7 @@
 //! records, and what is in place.
 #![tactic(auto)]
 
+pub mod answer;
 mod faults;
 mod lines;
 mod placing;

@@ -1,6 +1,7 @@
 //! BLOCKRECOVER: damaged blocks are mended by what is at hand, while the database may write.
 #![tactic(auto)]
 
+pub mod answer;
 mod blocks;
 mod lines;
 mod refusing;

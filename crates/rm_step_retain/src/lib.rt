@@ -1,6 +1,7 @@
 //! The statements of the retention policy: REPORT OBSOLETE, REPORT NEED BACKUP, and DELETE OBSOLETE.
 #![tactic(auto)]
 
+pub mod answer;
 mod deleting;
 mod finding;
 mod looking;

@@ -1,6 +1,7 @@
 //! The statements that only tell: LIST, REPORT SCHEMA, SHOW ALL, DUMP and VALIDATE ALL.
 #![tactic(auto)]
 
+pub mod answer;
 mod corruption;
 mod dumping;
 mod incarnations;

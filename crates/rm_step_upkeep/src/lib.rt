@@ -3,6 +3,7 @@
 #![tactic(auto)]
 
 mod amending;
+pub mod answer;
 mod cataloguing;
 mod changing;
 mod crosschecking;

@@ -1,24 +1,24 @@
-//! The statements that tell: of the state alone, and VALIDATE ALL, which looks at the objects of records.
+//! What the statements come to that tell: of the state alone, and VALIDATE ALL, which looks at the objects of records.
 ghost use Rattle.std.specs.Prelude.{◌≡◌, Option, None, All, IfOk, IfSome, ◌≤◌, IsErrOf};
 ghost use Rattle.rm_base.specs.{Store.{Held}, Outside.{Rose}};
-ghost use Rattle.rm_machine.specs.{Hands.{Tells}, Nature.{nature_of}, Sound.{IsSound}, Step.{refusal_of}};
+ghost use Rattle.rm_machine.specs.{Comes.{IsAnswer}, Hands.{Tells}, Nature.{nature_of}, Sound.{IsSound}, Step.{refusal_of}};
 ghost use Rattle.rm_machine.specs.declared.nature.Nature.TheVariants.{TellsState};
 ghost use Rattle.rm_report.specs.Reply.{IsPlain};
-ghost use Rattle.rm_site.specs.Comes.{IsAnswer};
 ghost use Rattle.rm_commit.specs.declared.commit.Stop.TheVariants.{StoreFault, KeeperFault};
 ghost use Rattle.rm_lang_statement.specs.declared.command.Command.TheVariants.{ValidateAll};
 
-use crate::channels::channel_count;
-use crate::faults::stop_of;
-use crate::statement::Answer;
+use crate::corruption::list_corruption;
+use crate::dumping::dump;
+use crate::incarnations::list_incarnation;
+use crate::listing::list;
+use crate::schema::report_schema;
+use crate::settings::show_all;
+use crate::validating::validate_all;
 use rm_base::{Class, NoMemory, Seq, Store};
 use rm_commit::Stop;
 use rm_lang_statement::Command;
-use rm_machine::State;
+use rm_machine::{Answer, State, channel_count, stop_of};
 use rm_report::Line;
-use rm_step_tell::{
-    dump, list, list_corruption, list_incarnation, report_schema, show_all, validate_all,
-};
 use std::alloc::Global;
 use std::thread::Threads;
 
@@ -45,8 +45,8 @@ fn lines_of(alloc: Global, state: &State, command: &Command) -> Result<Seq<Line>
 
 /// What a statement comes to that tells of the state alone, and that the state does not refuse. An error is want of
 /// memory.
-#[tactic(auto, using(crate::proofs::Ids::state_tells))]
-pub(crate) fn tell(alloc: Global, state: &State, command: &Command) -> Result<Answer, NoMemory>
+#[tactic(auto, using(crate::proofs::Telling::state_tells))]
+pub fn tell(alloc: Global, state: &State, command: &Command) -> Result<Answer, NoMemory>
     requires nature { nature_of command.now ≡ TellsState }
     requires sound { IsSound state.now }
     requires accepted { refusal_of state.now command.now ≡ None }
@@ -55,8 +55,9 @@ pub(crate) fn tell(alloc: Global, state: &State, command: &Command) -> Result<An
     Ok(Answer::Told(lines_of(alloc, state, command)?))
 }
 
-/// What VALIDATE ALL comes to: it tells. An error is a stop.
-pub(crate) fn validate<R: Threads + Sync, D: Store>(
+/// What VALIDATE ALL comes to: it tells. It goes by so many channels, 1 to 16, or else by as many as are configured. An
+/// error is a stop.
+pub fn validate<R: Threads + Sync, D: Store>(
     rt: &R,
     alloc: Global,
     channels: Option<u32>,

@@ -1,24 +1,21 @@
-//! BACKUP ARCHIVELOG ALL: it looks at the objects of records, one after another.
+//! What BACKUP ARCHIVELOG ALL comes to: it looks at the objects of records, one after another.
 ghost use Rattle.std.specs.Prelude.{◌≡◌, ◌≤◌, IfOk, IsErrOf, OnOk};
 ghost use Rattle.rm_base.specs.Outside.{Rose};
 ghost use Rattle.rm_commit.specs.declared.commit.Stop.TheVariants.{StoreFault, KeeperFault};
-ghost use Rattle.rm_machine.specs.Sound.{IsSound};
+ghost use Rattle.rm_machine.specs.{Comes.{IsAnswer}, Sound.{IsSound}};
 ghost use Rattle.rm_catalog_typed.specs.Changes.{EditsFollow};
-ghost use Rattle.rm_site.specs.Comes.{IsAnswer};
 ghost use Rattle.rm_lang_statement.specs.declared.command.Command.TheVariants.{BackupLogs};
 
-use crate::faults::stop_of;
-use crate::statement::Answer;
+use crate::logs::backup_logs;
 use rm_base::Store;
 use rm_catalog::Edit;
 use rm_commit::Stop;
-use rm_machine::State;
-use rm_step_backup::backup_logs;
+use rm_machine::{Answer, State, stop_of};
 use std::alloc::Global;
 
 /// What BACKUP ARCHIVELOG ALL comes to that the state does not refuse: it is done, or refused by what the store holds.
 /// After an error, which is a stop, nothing is said of the state and the edits.
-pub(crate) fn back_up_logs<D: Store>(
+pub fn back_up_logs<D: Store>(
     alloc: Global,
     state: &mut State,
     store: &mut D,

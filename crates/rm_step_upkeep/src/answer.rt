@@ -1,25 +1,24 @@
-//! CROSSCHECK and CATALOG: they look at objects, one after another.
+//! What CROSSCHECK and CATALOG come to: they look at objects, one after another.
 ghost use Rattle.std.specs.Prelude.{◌≡◌, ◌≤◌, None, IfOk, IsErrOf, OnOk};
 ghost use Rattle.rm_base.specs.Outside.{Rose};
 ghost use Rattle.rm_commit.specs.declared.commit.Stop.TheVariants.{StoreFault, KeeperFault};
-ghost use Rattle.rm_machine.specs.{Marks.{ids_refusal}, Nature.{nature_of}, Sound.{IsSound}, declared.nature.Nature.TheVariants.{Records}};
+ghost use Rattle.rm_machine.specs.{Comes.{IsAnswer}, Marks.{ids_refusal}, Nature.{nature_of}, Sound.{IsSound}};
+ghost use Rattle.rm_machine.specs.declared.nature.Nature.TheVariants.{Records};
 ghost use Rattle.rm_catalog_typed.specs.Changes.{EditsFollow};
-ghost use Rattle.rm_site.specs.Comes.{IsAnswer};
 ghost use Rattle.rm_lang_statement.specs.declared.command.Command.TheVariants.{Crosscheck};
 
-use crate::faults::stop_of;
-use crate::statement::Answer;
+use crate::cataloguing::catalog;
+use crate::crosschecking::crosscheck;
 use rm_base::{Class, Store};
 use rm_catalog::Edit;
 use rm_commit::Stop;
 use rm_lang_statement::Command;
-use rm_machine::State;
-use rm_step_upkeep::{catalog, crosscheck};
+use rm_machine::{Answer, State, stop_of};
 use std::alloc::Global;
 
 /// What CROSSCHECK comes to that the state does not refuse: it is done. After an error, which is a stop, nothing is
 /// said of the state and the edits.
-pub(crate) fn check<D: Store>(
+pub fn check<D: Store>(
     alloc: Global,
     state: &mut State,
     store: &mut D,
@@ -43,7 +42,7 @@ pub(crate) fn check<D: Store>(
 
 /// What CATALOG comes to: it is done, or refused by what the store holds. After an error, which is a stop, nothing is said of the
 /// state and the edits.
-pub(crate) fn record<D: Store>(
+pub fn record<D: Store>(
     alloc: Global,
     state: &mut State,
     store: &mut D,

@@ -1,27 +1,24 @@
-//! RECOVER COPY: it looks at what the store holds.
+//! What RECOVER COPY comes to: it looks at what the store holds.
 ghost use Rattle.std.specs.Prelude.{◌≡◌, ◌≤◌, None, IfOk, IfSome, IsErrOf, OnOk};
 ghost use Rattle.rm_base.specs.Outside.{Rose};
 ghost use Rattle.rm_commit.specs.declared.commit.Stop.TheVariants.{StoreFault, KeeperFault};
-ghost use Rattle.rm_machine.specs.{RecoverCopy.{recover_copy_refusal}, Sound.{IsSound}, Step.{IsStatement}};
+ghost use Rattle.rm_machine.specs.{Comes.{IsAnswer}, RecoverCopy.{recover_copy_refusal}, Sound.{IsSound}, Step.{IsStatement}};
 ghost use Rattle.rm_catalog_typed.specs.Changes.{EditsFollow};
-ghost use Rattle.rm_site.specs.Comes.{IsAnswer};
 ghost use Rattle.rm_lang_statement.specs.declared.command.Command.TheVariants.{RecoverCopy};
 
-use crate::channels::channel_count;
-use crate::faults::stop_of;
-use crate::statement::Answer;
+use crate::statement::recover_copy;
 use rm_base::{Store, Text};
 use rm_catalog::Edit;
 use rm_commit::Stop;
 use rm_lang_statement::Until;
-use rm_machine::State;
-use rm_step_copies::recover_copy;
+use rm_machine::{Answer, State, channel_count, stop_of};
 use std::alloc::Global;
 use std::thread::Threads;
 
-/// What RECOVER COPY comes to that the state does not refuse: it is done, or refused by what the store holds. After an error,
-/// which is a stop, nothing is said of the state and the edits.
-pub(crate) fn renew<R: Threads + Sync, D: Store>(
+/// What RECOVER COPY comes to that the state does not refuse: it is done, or refused by what the store holds. It goes by so
+/// many channels, 1 to 16, or else by as many as are configured. After an error, which is a stop, nothing is said of the
+/// state and the edits.
+pub fn renew<R: Threads + Sync, D: Store>(
     rt: &R,
     alloc: Global,
     channels: Option<u32>,

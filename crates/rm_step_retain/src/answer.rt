@@ -1,25 +1,24 @@
-//! REPORT OBSOLETE, REPORT NEED BACKUP and DELETE OBSOLETE: they look at what the store holds.
+//! What REPORT OBSOLETE, REPORT NEED BACKUP and DELETE OBSOLETE come to: they look at what the store holds.
 ghost use Rattle.std.specs.Prelude.{◌≡◌, ◌≤◌, None, IfOk, IfSome, IsErrOf, OnOk};
 ghost use Rattle.rm_base.specs.Outside.{Rose};
 ghost use Rattle.rm_commit.specs.declared.commit.Stop.TheVariants.{StoreFault, KeeperFault};
-ghost use Rattle.rm_machine.specs.{Marks.{ids_refusal}, Sound.{IsSound}};
+ghost use Rattle.rm_machine.specs.{Comes.{IsAnswer}, Marks.{ids_refusal}, Sound.{IsSound}};
 ghost use Rattle.rm_catalog_typed.specs.Changes.{EditsFollow};
-ghost use Rattle.rm_site.specs.Comes.{IsAnswer};
 ghost use Rattle.rm_lang_statement.specs.declared.command.Command.TheVariants.{DeleteObsolete, ReportNeedBackup, ReportObsolete};
 
-use crate::channels::channel_count;
-use crate::faults::stop_of;
-use crate::statement::Answer;
+use crate::deleting::delete_obsolete;
+use crate::needing::report_need_backup;
+use crate::reporting::report_obsolete;
 use rm_base::Store;
 use rm_catalog::Edit;
 use rm_commit::Stop;
-use rm_machine::State;
-use rm_step_retain::{delete_obsolete, report_need_backup, report_obsolete};
+use rm_machine::{Answer, State, channel_count, stop_of};
 use std::alloc::Global;
 use std::thread::Threads;
 
-/// What REPORT OBSOLETE comes to: it tells. An error is a stop.
-pub(crate) fn tell_obsolete<R: Threads + Sync, D: Store>(
+/// What REPORT OBSOLETE comes to: it tells. It goes by so many channels, 1 to 16, or else by as many as are configured.
+/// An error is a stop.
+pub fn tell_obsolete<R: Threads + Sync, D: Store>(
     rt: &R,
     alloc: Global,
     channels: Option<u32>,
@@ -41,8 +40,9 @@ pub(crate) fn tell_obsolete<R: Threads + Sync, D: Store>(
     }
 }
 
-/// What REPORT NEED BACKUP comes to: it tells. An error is a stop.
-pub(crate) fn tell_needs<R: Threads + Sync, D: Store>(
+/// What REPORT NEED BACKUP comes to: it tells. It goes by so many channels, 1 to 16, or else by as many as are
+/// configured. An error is a stop.
+pub fn tell_needs<R: Threads + Sync, D: Store>(
     rt: &R,
     alloc: Global,
     channels: Option<u32>,
@@ -64,9 +64,9 @@ pub(crate) fn tell_needs<R: Threads + Sync, D: Store>(
     }
 }
 
-/// What DELETE OBSOLETE comes to that the state does not refuse: it is done. After an error, which is a stop, nothing is
-/// said of the state and the edits.
-pub(crate) fn clear<R: Threads + Sync, D: Store>(
+/// What DELETE OBSOLETE comes to that the state does not refuse: it is done. It goes by so many channels, 1 to 16, or else
+/// by as many as are configured. After an error, which is a stop, nothing is said of the state and the edits.
+pub fn clear<R: Threads + Sync, D: Store>(
     rt: &R,
     alloc: Global,
     channels: Option<u32>,

@@ -1,22 +1,21 @@
-//! HOST REMOVE, DAMAGE, CUT and RENAME: they look at what the store holds, and change nothing but objects.
+//! What HOST REMOVE, DAMAGE, CUT and RENAME come to: they look at what the store holds, and change nothing but objects.
 ghost use Rattle.std.specs.Prelude.{◌≡◌, ◌≤◌, None, IfOk, IsErrOf};
 ghost use Rattle.rm_base.specs.Outside.{Rose};
 ghost use Rattle.rm_commit.specs.declared.commit.Stop.TheVariants.{StoreFault, KeeperFault};
-ghost use Rattle.rm_machine.specs.{Nature.{nature_of}, Sound.{IsSound}, Step.{refusal_of}, declared.nature.Nature.TheVariants.{Mishap}};
-ghost use Rattle.rm_site.specs.Comes.{IsAnswer};
+ghost use Rattle.rm_machine.specs.{Comes.{IsAnswer}, Nature.{nature_of}, Sound.{IsSound}, Step.{refusal_of}};
+ghost use Rattle.rm_machine.specs.declared.nature.Nature.TheVariants.{Mishap};
 
-use crate::statement::Answer;
+use crate::objects::{cut, damage, remove, rename};
 use rm_base::Store;
 use rm_commit::Stop;
 use rm_lang_statement::Command;
-use rm_machine::State;
-use rm_step_host::{cut, damage, remove, rename};
+use rm_machine::{Answer, State};
 use std::alloc::Global;
 
 /// What a mishap of an object comes to that the state does not refuse: it is done, or refused by what the store holds.
 /// The state stays. An error is a stop.
-#[tactic(auto, using(crate::proofs::Accepted::mishap_does, crate::proofs::Ids::mishap_ids))]
-pub(crate) fn mishap<D: Store>(
+#[tactic(auto, using(crate::proofs::Mishaps::mishap_does, crate::proofs::Mishaps::mishap_ids))]
+pub fn mishap<D: Store>(
     alloc: Global,
     state: &State,
     store: &mut D,

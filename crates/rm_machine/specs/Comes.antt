@@ -1,12 +1,11 @@
 -- What a statement comes to, where there is a database.
-use Rattle.std.specs.Prelude.{◌≡◌, true, false, Option, Some, None, All}
+use Rattle.std.specs.Prelude.{◌≡◌, Bool, true, false, Option, Some, None, All}
 use Rattle.rm_base.specs.{Store.{Held}, declared.refusal.Refusal.{Refusal}}
 use Rattle.rm_lang_statement.specs.declared.command.Command.{Command}
 use Rattle.rm_report.specs.Reply.{IsPlain, HasDate}
-use Rattle.rm_machine.specs.{Effect.{refused, told}, Hands.{Hands}, Laws.{only_tells}, Marks.{lacks_ids}, Sound.{IsSound}}
-use Rattle.rm_machine.specs.{Step.{IsOutcome, refusal_of}, declared.state.State.{State}}
-use Rattle.rm_site.specs.declared.statement.Answer.{Answer, TheVariants.{Refused, Told, Done}}
-use Rattle.rm_machine_laws.specs.Refused.{looks_at_objects}
+use Rattle.rm_machine.specs.{Effect.{refused, told}, Hands.{Hands}, Laws.{only_tells}, Marks.{lacks_ids}, Nature.{nature_of, tries}}
+use Rattle.rm_machine.specs.{Sound.{IsSound}, Step.{IsOutcome, refusal_of}}
+use Rattle.rm_machine.specs.declared.{answer.Answer.{Answer, TheVariants.{Refused, Told, Done}}, state.State.{State}}
 
 -- From the state s the statement is refused, or it only tells: then nothing changed. Or it is done, and leaves the
 -- state t.
@@ -14,6 +13,10 @@ abbrev pub ComesTo : Option Held → State → Command → Answer → State → 
 ComesTo held s c (Refused r) t = (t ≡ s) × ((objects : Held) → held ≡ Some objects → IsOutcome s objects c (refused r))
 ComesTo held s c (Told lines) t = (t ≡ s) × ((objects : Held) → held ≡ Some objects → IsOutcome s objects c (told lines))
 ComesTo held s c (Done x) t = (refusal_of s c ≡ None) × Hands held s c x t
+
+-- what the objects hold may refuse it too
+abbrev pub looks_at_objects : Command → Bool
+looks_at_objects c = tries (nature_of c)
 
 -- it is refused exactly where the state refuses it, or by what the objects hold
 abbrev pub IsRefusedBy : Option Refusal → Command → Answer → Type 0

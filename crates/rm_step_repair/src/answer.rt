@@ -1,20 +1,17 @@
-//! BLOCKRECOVER: it looks at what the store holds.
+//! What BLOCKRECOVER comes to: it looks at what the store holds.
 ghost use Rattle.std.specs.Prelude.{◌≡◌, ◌≤◌, None, IfOk, IsErrOf, OnOk};
 ghost use Rattle.rm_base.specs.Outside.{Rose};
 ghost use Rattle.rm_commit.specs.declared.commit.Stop.TheVariants.{StoreFault, KeeperFault};
-ghost use Rattle.rm_machine.specs.{BlockRecoverRefusal.{repair_refusal}, Sound.{IsSound}, Step.{IsStatement}};
+ghost use Rattle.rm_machine.specs.{BlockRecoverRefusal.{repair_refusal}, Comes.{IsAnswer}, Sound.{IsSound}, Step.{IsStatement}};
 ghost use Rattle.rm_catalog_typed.specs.Changes.{EditsFollow};
-ghost use Rattle.rm_site.specs.Comes.{IsAnswer};
 ghost use Rattle.rm_lang_statement.specs.declared.command.Command.TheVariants.{BlockRecover};
 
-use crate::faults::stop_of;
-use crate::statement::Answer;
+use crate::statement::block_recover;
 use rm_base::Store;
 use rm_catalog::Edit;
 use rm_commit::Stop;
 use rm_lang_statement::RepairForm;
-use rm_machine::State;
-use rm_step_repair::block_recover;
+use rm_machine::{Answer, State, stop_of};
 use std::alloc::Global;
 use std::sync::Wait;
 use std::thread::Threads;
@@ -22,7 +19,7 @@ use std::thread::Threads;
 /// What BLOCKRECOVER comes to that the state does not refuse: it is done, or refused with the first gap. After an error,
 /// which is a stop, nothing is said of the state and the edits.
 #[tactic(auto, using(crate::proofs::Ids::repair_ids))]
-pub(crate) fn mend<R: Threads + Wait + Sync, D: Store>(
+pub fn mend<R: Threads + Wait + Sync, D: Store>(
     rt: &R,
     alloc: Global,
     state: &mut State,

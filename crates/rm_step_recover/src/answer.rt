@@ -1,26 +1,24 @@
-//! RESTORE and RECOVER DATABASE, and what only tells of them: they look at what the store holds.
+//! What RESTORE and RECOVER DATABASE come to, and what only tells of them: they look at what the store holds.
 ghost use Rattle.std.specs.Prelude.{◌≡◌, ◌≤◌, None, IfOk, IfSome, IsErrOf};
 ghost use Rattle.rm_base.specs.Outside.{Rose};
 ghost use Rattle.rm_commit.specs.declared.commit.Stop.TheVariants.{StoreFault, KeeperFault};
 ghost use Rattle.rm_lang_statement.specs.declared.command.Command.TheVariants.{Preview, Recover, RecoverTest, Restore};
 ghost use Rattle.rm_machine.specs.{Recover.{recover_refusal}, RecoverTest.{test_refusal}, Restore.{preview_refusal, restore_refusal}};
-ghost use Rattle.rm_machine.specs.Sound.{IsSound};
-ghost use Rattle.rm_site.specs.Comes.{IsAnswer};
+ghost use Rattle.rm_machine.specs.{Comes.{IsAnswer}, Sound.{IsSound}};
 
-use crate::channels::channel_count;
-use crate::faults::stop_of;
-use crate::statement::Answer;
+use crate::{previewing, recovery, recovery_test, restoring};
 use rm_base::Store;
 use rm_commit::Stop;
 use rm_lang_statement::Until;
-use rm_machine::State;
+use rm_machine::{Answer, State, channel_count, stop_of};
 use std::alloc::Global;
 use std::thread::Threads;
 
 /// What RECOVER DATABASE comes to that the state does not refuse: it is done, or refused with the first gap. The
-/// catalog stays. After an error, which is a stop, nothing changed.
+/// catalog stays. It goes by so many channels, 1 to 16, or else by as many as are configured. After an error, which is
+/// a stop, nothing changed.
 #[tactic(auto, using(crate::proofs::Ids::recover_ids))]
-pub(crate) fn recover<R: Threads + Sync, D: Store>(
+pub fn recover<R: Threads + Sync, D: Store>(
     rt: &R,
     alloc: Global,
     channels: Option<u32>,
@@ -39,15 +37,16 @@ pub(crate) fn recover<R: Threads + Sync, D: Store>(
     ensures never_falls { D.faults store.old ≤ D.faults store.new }
 {
     let channels = channel_count(state, channels);
-    match rm_step_recover::recover(rt, alloc, channels, state, store, until) {
+    match recovery::recover(rt, alloc, channels, state, store, until) {
         Ok(Ok(handed)) => Ok(Answer::Done(handed)),
         Ok(Err(refusal)) => Ok(Answer::Refused(refusal)),
         Err(fault) => Err(stop_of(fault)),
     }
 }
 
-/// What RECOVER DATABASE TEST comes to that the state does not refuse: it tells, or is refused with the first gap.
-pub(crate) fn recover_test<R: Threads + Sync, D: Store>(
+/// What RECOVER DATABASE TEST comes to that the state does not refuse: it tells, or is refused with the first gap. It
+/// goes by so many channels, 1 to 16, or else by as many as are configured. An error is a stop.
+pub fn recover_test<R: Threads + Sync, D: Store>(
     rt: &R,
     alloc: Global,
     channels: Option<u32>,
@@ -66,17 +65,17 @@ pub(crate) fn recover_test<R: Threads + Sync, D: Store>(
     ensures never_falls { D.faults store.old ≤ D.faults store.new }
 {
     let channels = channel_count(state, channels);
-    match rm_step_recover::recover_test(rt, alloc, channels, state, store, until, inc) {
+    match recovery_test::recover_test(rt, alloc, channels, state, store, until, inc) {
         Ok(Ok(lines)) => Ok(Answer::Told(lines)),
         Ok(Err(refusal)) => Ok(Answer::Refused(refusal)),
         Err(fault) => Err(stop_of(fault)),
     }
 }
 
-/// What RESTORE comes to that the state does not refuse: it is done. The catalog stays. After an error, which is a
-/// stop, nothing changed.
+/// What RESTORE comes to that the state does not refuse: it is done. The catalog stays. It goes by so many channels,
+/// 1 to 16, or else by as many as are configured. After an error, which is a stop, nothing changed.
 #[tactic(auto, using(crate::proofs::Ids::restore_ids))]
-pub(crate) fn restore<R: Threads + Sync, D: Store>(
+pub fn restore<R: Threads + Sync, D: Store>(
     rt: &R,
     alloc: Global,
     channels: Option<u32>,
@@ -96,14 +95,15 @@ pub(crate) fn restore<R: Threads + Sync, D: Store>(
     ensures never_falls { D.faults store.old ≤ D.faults store.new }
 {
     let channels = channel_count(state, channels);
-    match rm_step_recover::restore(rt, alloc, channels, state, store, file, until) {
+    match restoring::restore(rt, alloc, channels, state, store, file, until) {
         Ok(handed) => Ok(Answer::Done(handed)),
         Err(fault) => Err(stop_of(fault)),
     }
 }
 
-/// What RESTORE PREVIEW comes to that the state does not refuse: it tells.
-pub(crate) fn preview<R: Threads + Sync, D: Store>(
+/// What RESTORE PREVIEW comes to that the state does not refuse: it tells. It goes by so many channels, 1 to 16, or else
+/// by as many as are configured. An error is a stop.
+pub fn preview<R: Threads + Sync, D: Store>(
     rt: &R,
     alloc: Global,
     channels: Option<u32>,
@@ -121,7 +121,7 @@ pub(crate) fn preview<R: Threads + Sync, D: Store>(
     ensures never_falls { D.faults store.old ≤ D.faults store.new }
 {
     let channels = channel_count(state, channels);
-    match rm_step_recover::preview(rt, alloc, channels, state, store, until) {
+    match previewing::preview(rt, alloc, channels, state, store, until) {
         Ok(lines) => Ok(Answer::Told(lines)),
         Err(fault) => Err(stop_of(fault)),
     }
