@@ -10,5 +10,5 @@ pub mod text;
 
 pub use dates::has_dates;
 pub use line::{Line, Packing, Reply, SchemaPlace, Shape};
-pub use replies::refusal_reply;
+pub use replies::{refusal_reply, reply_of};
 pub use text::bytes_of;

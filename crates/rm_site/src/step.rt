@@ -3,7 +3,7 @@ ghost use Rattle.std.specs.Prelude.{◌≡◌, ◌≤◌, ◌++◌, ◌||◌, tr
 ghost use Rattle.rm_base.specs.Outside.{Rose};
 ghost use Rattle.rm_commit.specs.declared.commit.Stop.TheVariants.{StoreFault, KeeperFault};
 ghost use Rattle.rm_lang_statement.specs.IsCommand.{is_command};
-ghost use Rattle.rm_report.specs.Reply.{HasDates, IsFlagged, said};
+ghost use Rattle.rm_report.specs.Reply.{HasDates, IsFlagged};
 ghost use Rattle.rm_evidence.specs.Names.{site_name};
 ghost use Rattle.rm_machine.specs.{Built.{is_built}, Laws.{only_tells}, Marks.{lacks_ids}, Saved.{saved_names}, Sound.{IsSound}};
 ghost use Rattle.rm_machine.specs.Step.{IsStatement};
@@ -22,22 +22,17 @@ use rm_channel::Gate;
 use rm_commit::{Commit, Stop, carry_out};
 use rm_evidence::site_name;
 use rm_lang_statement::Command;
+<<<<<<< ours
 use rm_machine::{Answer, Handed, State, only_tells};
 use rm_report::{Line, Reply, refusal_reply};
+=======
+use rm_machine::{Handed, State, only_tells};
+use rm_report::{Reply, refusal_reply, reply_of};
+>>>>>>> theirs
 use std::alloc::Global;
 use std::mem;
 use std::sync::Wait;
 use std::thread::Threads;
-
-// A reply that is no refusal.
-fn reply_of(lines: Seq<Line>) -> Reply
-    ensures { result ≡ said lines }
-{
-    Reply {
-        lines,
-        refused: false,
-    }
-}
 
 // Adds the names of the objects of these parts.
 fn add_names(alloc: Global, names: &mut Seq<Text>, parts: &[PartEntry]) -> Result<(), NoMemory>

@@ -132,12 +132,12 @@ module _ {held : Option Held} {kept : Option (List Record)} {origin v : View} {x
 
 -- all were done
 pub inside-all : {held : Option Held} {kept : Option (List Record)} {origin v : View} {x : Settings} {block left : List Inner} {clock : ℕ} {lines : List Line} {first : Machine} → Inside held kept origin v x block left clock lines first
-    → length left ≡ 0 → IsWhole held kept origin v block clock (said lines) first
-inside-all {held = held} {kept = kept} {origin = origin} {v = v} {x = x} {block = block} {left = left} {clock = clock} {lines = lines} {first = first} at none =
+    → length left ≡ 0 → (reply : Reply) → reply ≡ said lines → IsWhole held kept origin v block clock reply first
+inside-all {held = held} {kept = kept} {origin = origin} {v = v} {x = x} {block = block} {left = left} {clock = clock} {lines = lines} {first = first} at none reply is =
     let p : Inside held kept origin v x block [] clock lines first = subst (λ (ys : List Inner). Inside held kept origin v x block ys clock lines first) (nil_from_length left none) at in
     let whole : BlockSteps unset first block clock (joined (said lines) (said [])) (p.applied || false) p.machine = p.goes (said []) false p.machine (refl, refl, refl) in
     let ends : BlockSteps unset first block clock (joined (said lines) (said [])) p.applied p.machine = subst (λ (b : Bool). BlockSteps unset first block clock (joined (said lines) (said [])) b p.machine) (or-false p.applied) whole in
-    (p.machine, p.applied, subst (λ (ls : List Line). BlockSteps unset first block clock (said ls) p.applied p.machine) (append-nil lines) ends, p.stands, p.holds, p.knows)
+    (p.machine, p.applied, subst (λ (r : Reply). BlockSteps unset first block clock r p.applied p.machine) (ap said (append-nil lines) ∙ sym is) ends, p.stands, p.holds, p.knows)
 
 -- the replies to what a RUN sets are flagged rightly
 pub set-flagged : (o : Option State) → IsFlagged (set_reply o)

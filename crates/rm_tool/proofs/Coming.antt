@@ -84,12 +84,12 @@ module _ {origin v : View} {x : Settings} {y : Inner} {block left others : List 
 
 -- all were done
 pub comes-all : {origin v : View} {x : Settings} {block left : List Inner} {clock : ℕ} {lines : List Line} {start here : AtHand} → Comes origin v x block left clock lines start here → length left ≡ 0
-    → IsComing origin v block clock (said lines) start here
-comes-all {origin = origin} {v = v} {x = x} {block = block} {left = left} {clock = clock} {lines = lines} {start = start} {here = here} at none =
+    → (reply : Reply) → reply ≡ said lines → IsComing origin v block clock reply start here
+comes-all {origin = origin} {v = v} {x = x} {block = block} {left = left} {clock = clock} {lines = lines} {start = start} {here = here} at none reply is =
     let p : Comes origin v x block [] clock lines start here = subst (λ (ys : List Inner). Comes origin v x block ys clock lines start here) (nil_from_length left none) at in
     let whole : BlockComes unset start block clock (joined (said lines) (said [])) (p.applied || false) here = p.goes (said []) false here (refl, refl, refl) in
     let ends : BlockComes unset start block clock (joined (said lines) (said [])) p.applied here = subst (λ (b : Bool). BlockComes unset start block clock (joined (said lines) (said [])) b here) (or-false p.applied) whole in
-    (p.applied, subst (λ (ls : List Line). BlockComes unset start block clock (said ls) p.applied here) (append-nil lines) ends, p.knows)
+    (p.applied, subst (λ (r : Reply). BlockComes unset start block clock r p.applied here) (ap said (append-nil lines) ∙ sym is) ends, p.knows)
 
 -- these statements, and one more
 pub come-more : (ss : List (ℕ × List Token)) (rs : List Reply) (start mid end : AtHand) (all : Answers) (s : ℕ × List Token) (r : Reply) (before here : Bool)

@@ -1,6 +1,6 @@
 -- What the tally of replies tells.
-use Rattle.std.specs.{Fmt.{decimal}, Prelude.{if◌then◌else◌}, List.{list_any}}
-use Rattle.std.proofs.Common.{◌≡◌, ◌≤◌, ◌+◌, ◌∙◌, ◌++◌, ◌∷◌, [], ℕ, Bool, true, false, List, Option, refl, ap, sym, arith, codes, length, lt-ltb, ltb-true, nat_lt}
+use Rattle.std.specs.{Prelude.{if◌then◌else◌}, List.{list_any}}
+use Rattle.std.proofs.Common.{◌≡◌, ◌≤◌, ◌∙◌, ◌∷◌, [], ℕ, Bool, true, false, List, Option, refl, ap, sym, arith, length, lt-ltb, ltb-true, nat_lt}
 use Rattle.std.proofs.lemmas.Bool.{le-ltb}
 use Rattle.rm_machine.specs.declared.state.State.{State}
 use Rattle.rm_report.specs.declared.line.Reply.{Reply}
@@ -38,9 +38,8 @@ few-refused (r ∷ rs) = go r.refused refl (few-refused rs)
 -- the summary of these replies, and of the database at the end, is the line of the drill
 pub line-is : (s : Summary) (rs : List Reply) (o : Option State) → IsTally s.tally rs → s.statements ≡ length rs → length rs ≤ 18446744073709551615 → s.next_scn ≡ next_scn o → s.objects ≡ objects_in o
     → summary_text s ≡ drill_line s.number rs o
-unfolding summary_text drill_line
+unfolding drill_line
 line-is s rs o tally many most scn objects =
     let exact : capped (refusals_told rs) ≡ refusals_told rs = rw (le-ltb 18446744073709551615 (refusals_told rs) (omega (arith, few-refused rs, most))) refl in
     let refused : s.tally.refused ≡ refusals_told rs = tally.refused ∙ exact in
-    λ i. codes "drill " ++ decimal s.number ++ codes ": " ++ decimal (many i) ++ codes " statements, " ++ decimal (refused i) ++ codes " refused, " ++ decimal (tally.writes i) ++ codes " writes, next SCN "
-    ++ decimal (scn i) ++ codes ", " ++ decimal (objects i) ++ codes " objects" ++ 10 ∷ []
+    λ i. summary_text (record { number = s.number; statements = many i; tally = record { refused = refused i; writes = tally.writes i }; next_scn = scn i; objects = objects i })

@@ -18,9 +18,7 @@ capped n = if nat_lt 18446744073709551615 n then 18446744073709551615 else n
 
 -- how many writes replies tell of; more than a number of 64 bits can say count as its greatest
 abbrev pub writes_told : List Reply → ℕ
-writes_told replies =
-    let all = sum_by (λ r. sum_by writes_in r.lines) replies in
-    if nat_lt 18446744073709551615 all then 18446744073709551615 else all
+writes_told replies = capped (sum_by (λ r. sum_by writes_in r.lines) replies)
 
 -- how many of them are refusals
 abbrev pub refusals_told : List Reply → ℕ
@@ -44,11 +42,19 @@ summary_text s =
     codes "drill " ++ decimal s.number ++ codes ": " ++ decimal s.statements ++ codes " statements, " ++ decimal s.tally.refused ++ codes " refused, " ++ decimal s.tally.writes ++ codes " writes, next SCN "
     ++ decimal s.next_scn ++ codes ", " ++ decimal s.objects ++ codes " objects" ++ 10 ∷ []
 
--- the line of a drill: its statements, the refusals among their replies, the writes, and what the database is at the end
+-- what a drill comes to: its statements, the refusals among their replies, the writes, and what the database is at the end
+abbrev pub summary_of : ℕ → List Reply → Option State → Summary
+summary_of n replies o = record {
+  number = n;
+  statements = length replies;
+  tally = record { refused = refusals_told replies; writes = writes_told replies };
+  next_scn = next_scn o;
+  objects = objects_in o;
+}
+
+-- the line of a drill that has these replies, and shows this database at the end
 unfoldable pub drill_line : ℕ → List Reply → Option State → List ℕ
-drill_line n replies o =
-    codes "drill " ++ decimal n ++ codes ": " ++ decimal (length replies) ++ codes " statements, " ++ decimal (refusals_told replies) ++ codes " refused, " ++ decimal (writes_told replies) ++ codes " writes, next SCN "
-    ++ decimal (next_scn o) ++ codes ", " ++ decimal (objects_in o) ++ codes " objects" ++ 10 ∷ []
+drill_line n replies o = summary_text (summary_of n replies o)
 
 -- What a session writes that served all its statements with these replies, and shows this database at the end: the replies, or of a
 -- drill its line.

@@ -16,7 +16,7 @@ use rm_catalog::Keeper;
 use rm_channel::Gate;
 use rm_commit::Stop;
 use rm_lang::{Inner, Until};
-use rm_report::{Line, Reply, refusal_reply};
+use rm_report::{Line, Reply, refusal_reply, reply_of};
 use rm_tool_opening::Site;
 use std::alloc::Global;
 use std::sync::Wait;
@@ -37,10 +37,7 @@ fn line_reply(alloc: Global, line: Line) -> Result<Reply, NoMemory>
 {
     let mut lines = Seq::new(alloc);
     lines.push(line)?;
-    Ok(Reply {
-        lines,
-        refused: false,
-    })
+    Ok(reply_of(lines))
 }
 
 // The reply to SET UNTIL.
@@ -201,8 +198,5 @@ pub fn serve_block<R: Threads + Wait + Sync, G: Gate, D: Store, C: Keeper>(
             });
         }
     }
-    Ok(Reply {
-        lines,
-        refused: false,
-    })
+    Ok(reply_of(lines))
 }

@@ -7,7 +7,7 @@ use rm_base::{FileNo, NoMemory, Seq};
 use rm_dup::Duplicate;
 use rm_lang_words::DuplicateWords;
 use rm_machine::replies::skipped_lines;
-use rm_report::{Line, Reply, bytes_of};
+use rm_report::{Line, bytes_of, reply_of};
 use std::alloc::Global;
 
 // Adds a line for each datafile, by the numbers that they had.
@@ -55,9 +55,5 @@ pub(crate) fn lines_text(
     ensures { IfOk result (λ text. text ≡ the_text_of (duplicate_of said.now) duplicate.now) }
 {
     let lines = lines_of(alloc, said, duplicate)?;
-    let reply = Reply {
-        lines,
-        refused: false,
-    };
-    bytes_of(alloc, &reply)
+    bytes_of(alloc, &reply_of(lines))
 }

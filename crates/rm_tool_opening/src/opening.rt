@@ -1,8 +1,7 @@
 //! The site is opened, or the line of a record is written.
-ghost use Rattle.std.specs.Prelude.{◌≡◌, ◌≤◌, true, false, IfErr, IfOk, OnOk, IsErrOf};
-ghost use Rattle.rm_base.specs.Outside.{Rose};
+ghost use Rattle.std.specs.Prelude.{◌≡◌, ◌≤◌, true, false, IfErr, IfOk, OnOk};
 ghost use Rattle.rm_site.specs.Opens.{Opens, Shows};
-ghost use Rattle.rm_tool_opening.specs.Opening.{RoseUnopened, WritesUnopened, BeginsBadRecord, TellsValid, WritesBadRecord, bad_record};
+ghost use Rattle.rm_tool_opening.specs.Opening.{RoseUnopened, TellsValid, WritesUnopened, bad_record};
 
 use rm_base::{Failed, NoMemory, Sink, Store, Text};
 use rm_catalog::{Keeper, Key};
@@ -68,49 +67,6 @@ fn bad_record(alloc: Global, key: Key) -> Result<Text, NoMemory>
     Ok(Text::from_string(format!(in alloc; "rman: bad record {kind} {id}\n")?))
 }
 
-// Opens the site, as `open_site` does, and tells of each way out by itself.
-fn open_told<K: Sink, D: Store, C: Keeper>(
-    alloc: Global,
-    sink: &mut K,
-    store: &mut D,
-    keeper: &mut C,
-) -> Result<Site, Unopened>
-    ensures opened { IfOk result (Opens (D.held store.old) (C.kept keeper.old)) }
-    ensures shows { IfOk result (Shows (D.held store.old) (C.kept keeper.old)) }
-    ensures live { IfOk result (λ site. site.live ≡ true) }
-    ensures applied { IfOk result (λ site. site.applied ≡ false) }
-    ensures valid { IfOk result (λ _. TellsValid (C.kept keeper.old)) }
-    ensures held { D.held store.new ≡ D.held store.old }
-    ensures kept { C.kept keeper.new ≡ C.kept keeper.old }
-
-    // What was written.
-    ensures ok { OnOk result (K.contents sink.new ≡ K.contents sink.old) }
-    ensures bad { IsErrOf result Unopened.BadRecord → WritesBadRecord (C.kept keeper.old) (K.contents sink.old) (K.contents sink.new) }
-    ensures sink { IsErrOf result Unopened.Sink → BeginsBadRecord (C.kept keeper.old) (K.contents sink.old) (K.contents sink.new) }
-    ensures store { IsErrOf result Unopened.Store → K.contents sink.new ≡ K.contents sink.old }
-    ensures keeper { IsErrOf result Unopened.Keeper → K.contents sink.new ≡ K.contents sink.old }
-    ensures memory { IsErrOf result Unopened.NoMemory → K.contents sink.new ≡ K.contents sink.old }
-
-    // Whose count rose. The store fails only where the keeper's records are valid.
-    ensures store_valid { IsErrOf result Unopened.Store → TellsValid (C.kept keeper.old) }
-    ensures sink_failed { IsErrOf result Unopened.Sink → Rose (K.faults sink.old) (K.faults sink.new) }
-    ensures store_failed { IsErrOf result Unopened.Store → Rose (D.faults store.old) (D.faults store.new) }
-    ensures keeper_failed { IsErrOf result Unopened.Keeper → Rose (C.faults keeper.old) (C.faults keeper.new) }
-    ensures none_falls { (K.faults sink.old ≤ K.faults sink.new) × (D.faults store.old ≤ D.faults store.new) × (C.faults keeper.old ≤ C.faults keeper.new) }
-{
-    match Site::open(alloc, store, keeper) {
-        Ok(site) => Ok(site),
-        Err(OpenFault::StoreFault) => Err(Unopened::Store),
-        Err(OpenFault::KeeperFault) => Err(Unopened::Keeper),
-        Err(OpenFault::NoMemory) => Err(Unopened::NoMemory),
-        Err(OpenFault::BadRow(kind, id)) => {
-            let line = bad_record(alloc, Key { kind, id })?;
-            write_all(sink, line.as_bytes())?;
-            Err(Unopened::BadRecord)
-        }
-    }
-}
-
 /// Opens the site over the store and the keeper. Where the keeper's records are not valid, the line of the first that
 /// breaks a rule is written, by kind and then by id; else nothing is.
 pub fn open_site<K: Sink, D: Store, C: Keeper>(
@@ -133,5 +89,15 @@ pub fn open_site<K: Sink, D: Store, C: Keeper>(
     ensures rose { IfErr result (RoseUnopened (K.faults sink.old) (K.faults sink.new) (D.faults store.old) (D.faults store.new) (C.faults keeper.old) (C.faults keeper.new)) }
     ensures none_falls { (K.faults sink.old ≤ K.faults sink.new) × (D.faults store.old ≤ D.faults store.new) × (C.faults keeper.old ≤ C.faults keeper.new) }
 {
-    open_told(alloc, sink, store, keeper)
+    match Site::open(alloc, store, keeper) {
+        Ok(site) => Ok(site),
+        Err(OpenFault::StoreFault) => Err(Unopened::Store),
+        Err(OpenFault::KeeperFault) => Err(Unopened::Keeper),
+        Err(OpenFault::NoMemory) => Err(Unopened::NoMemory),
+        Err(OpenFault::BadRow(kind, id)) => {
+            let line = bad_record(alloc, Key { kind, id })?;
+            write_all(sink, line.as_bytes())?;
+            Err(Unopened::BadRecord)
+        }
+    }
 }

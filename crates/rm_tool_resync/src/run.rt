@@ -9,7 +9,7 @@ use rm_base::{NoMemory, Seq, Sink, Text};
 use rm_catalog::{Keeper, KeeperFail};
 use rm_control::level;
 use rm_lang_words::{WordsFault, read_resync};
-use rm_report::{Line, Reply, bytes_of};
+use rm_report::{Line, bytes_of, reply_of};
 use rm_tool_ends::{Ended, refuse_words, status_of, write_all};
 use std::alloc::Global;
 
@@ -19,11 +19,7 @@ fn line_of(alloc: Global, number: u64) -> Result<Seq<u8>, NoMemory>
 {
     let mut lines = Seq::new(alloc);
     lines.push(Line::Resynced { records: number })?;
-    let reply = Reply {
-        lines,
-        refused: false,
-    };
-    bytes_of(alloc, &reply)
+    bytes_of(alloc, &reply_of(lines))
 }
 
 // The resync that is asked for.

@@ -10,7 +10,7 @@ use crate::numbering::next_number;
 use rm_base::{Bad, NoMemory, Seq};
 use rm_machine::replies::skipped_lines;
 use rm_piece::{Set, SetFile};
-use rm_report::{Line, Reply, bytes_of};
+use rm_report::{Line, bytes_of, reply_of};
 use rm_step_recover::push_rows;
 use std::alloc::Global;
 
@@ -92,9 +92,5 @@ pub(crate) fn text_of(alloc: Global, lines: Seq<Line>) -> Result<Seq<u8>, NoMemo
     requires dated { All LineHasDate lines }
     ensures { IfOk result (λ text. text ≡ the_text lines) }
 {
-    let reply = Reply {
-        lines,
-        refused: false,
-    };
-    bytes_of(alloc, &reply)
+    bytes_of(alloc, &reply_of(lines))
 }

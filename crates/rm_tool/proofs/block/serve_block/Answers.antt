@@ -1,12 +1,12 @@
-use Rattle.std.proofs.Common.{◌∙◌, List, ap, arith, length, sym, true}
+use Rattle.std.proofs.Common.{◌∙◌, List, ap, arith, length, subst, sym, true}
 use Rattle.rm_lang_statement.specs.IsCommand.{is_inner}
 use Rattle.rm_tool.specs.{Built.{is_built_inner}, Quiet.{only_tells_inner}}
 use Rattle.rm_tool.proofs.Blocks.{inside-done, inside-more, inside-refused, inside-all, others-pass, all-added}
 use Rattle.rm_tool.proofs.{Coming.{comes-all, comes-more, comes-refused}, Quiet.{first-passes, same-then, untouched-then}}
 use Rattle.rm_tool.proofs.Statements.{on-err}
 use Rattle.rm_tool.proofs.block.serve_block.Goals as goal
-use Rattle.rm_report.specs.{Reply.{IsPlain, LineHasDate}, declared.line.Line.{Line}}
-use Rattle.rm_report.proofs.Plain.{plain-dated, plain-lines, refused-behind}
+use Rattle.rm_report.specs.{Reply.{HasDates, IsPlain, LineHasDate}, declared.line.Line.{Line}}
+use Rattle.rm_report.proofs.Plain.{plain-dated, plain-lines, refused-behind, said-flagged}
 
 pub returns-in_err-add_lines-clause-stopped : goal.returns-in_err-add_lines-clause-stopped
 returns-in_err-add_lines-clause-stopped g c =
@@ -64,19 +64,20 @@ loop-inner-preserved g c =
     }
 
 pub returns-clause-steps : goal.returns-clause-steps
-returns-clause-steps g c = λ m stands holds tells. inside-all (c.loop-inner.invariant.inside m stands holds tells) (sym c.loop-inner.invariant.count ∙ c.in-None.ensures.steps.0)
+returns-clause-steps g c = λ m stands holds tells.
+    inside-all (c.loop-inner.invariant.inside m stands holds tells) (sym c.loop-inner.invariant.count ∙ c.in-None.ensures.steps.0) c.reply_of.result c.reply_of.ensures
 
 pub returns-clause-comes : goal.returns-clause-comes
-returns-clause-comes g c = comes-all c.loop-inner.invariant.comes (sym c.loop-inner.invariant.count ∙ c.in-None.ensures.steps.0)
+returns-clause-comes g c = comes-all c.loop-inner.invariant.comes (sym c.loop-inner.invariant.count ∙ c.in-None.ensures.steps.0) c.reply_of.result c.reply_of.ensures
 
 pub returns-clause-quiet : goal.returns-clause-quiet
 returns-clause-quiet g c = λ all. (c.loop-inner.invariant.quiet all).1
 
 pub returns-clause-dates : goal.returns-clause-dates
-returns-clause-dates g c = plain-dated c.loop-inner.lines c.loop-inner.invariant.plain
+returns-clause-dates g c = subst HasDates (sym c.reply_of.ensures) (plain-dated c.loop-inner.lines c.loop-inner.invariant.plain)
 
 pub returns-clause-flagged : goal.returns-clause-flagged
-returns-clause-flagged g c = c.loop-inner.invariant.plain
+returns-clause-flagged g c = said-flagged c.reply_of.result c.loop-inner.lines c.reply_of.ensures c.loop-inner.invariant.plain
 
 pub returns-in_err-reply-clause-untouched : goal.returns-in_err-reply-clause-untouched
 returns-in_err-reply-clause-untouched g c =
