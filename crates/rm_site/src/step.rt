@@ -22,13 +22,8 @@ use rm_channel::Gate;
 use rm_commit::{Commit, Stop, carry_out};
 use rm_evidence::site_name;
 use rm_lang_statement::Command;
-<<<<<<< ours
 use rm_machine::{Answer, Handed, State, only_tells};
-use rm_report::{Line, Reply, refusal_reply};
-=======
-use rm_machine::{Handed, State, only_tells};
 use rm_report::{Reply, refusal_reply, reply_of};
->>>>>>> theirs
 use std::alloc::Global;
 use std::mem;
 use std::sync::Wait;
