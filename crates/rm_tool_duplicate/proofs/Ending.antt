@@ -1,18 +1,21 @@
 -- How a duplicate ends, of how the calls below it did.
-use Rattle.std.proofs.Common.{◌≡◌, ℕ, List, Option, Some, None, refl, subst}
+use Rattle.std.{specs.Prelude.{IfOk, OnErr, OnOk}, proofs.Common.{◌≡◌, ◌∙◌, ℕ, List, Option, Some, None, Result, Ok, Err, refl, subst, sym}}
 use Rattle.rm_base.specs.{Outside.{Appends}, Store.{Held}, declared.refusal.Refusal.{Refusal}}
 use Rattle.rm_commit.specs.{Carrying.{Carried, Halted}, declared.commit.Stop.{Stop}}
 use Rattle.rm_commit.specs.declared.commit.Stop.TheVariants as stop
 use Rattle.rm_dup.specs.declared.database.Duplicate.{Duplicate}
 use Rattle.rm_lang_words.specs.Duplicate.{DuplicateSaid}
 use Rattle.rm_machine.specs.declared.state.State.{State}
-use Rattle.rm_shelf.specs.Shelved.{AllStay, Shelved}
-use Rattle.rm_tool_opening.specs.Opening.{TellsValid}
-use Rattle.rm_tool_duplicate.specs.{Asked.{Sides, sides}, Duplicated.{IsMade, IsMadeOf, Makes, commit_of}}
+use Rattle.rm_machine_laws.specs.Holds.{View}
+use Rattle.rm_shelf.specs.Shelved.{AllStay, Shelved, under}
+use Rattle.rm_tool_opening.specs.{Opening.{IsSource, TellsValid}, Opens.{Opens, Shows}, declared.opening.Unopened.{Unopened}}
+use Rattle.rm_tool_opening.proofs.Source.{source-of}
+use Rattle.rm_tool_duplicate.specs.{Asked.{Sides, sides}, Duplicated.{IsMade, IsMadeOf, Makes, commit_of, lines_text}}
 use Rattle.rm_tool_duplicate.specs.{Ended.{Finishes, IsReady, Leaves, before_changes, in_changes, in_lines, in_refusal}, Refused.{Refuses}}
 use Rattle.rm_tool_duplicate.{specs.declared.preparing.Ready.{Ready}, proofs.Staying.{under-stays}}
 use Rattle.rm_tool_ends.specs.{Causes.{of_stop}, Writing.{WritesFront, WritesRefusal}, declared.ended.Ended.{Ended}}
 use Rattle.rm_tool_ends.specs.declared.ended.Ended.TheVariants as ended
+use Rattle.rm_tool_ends.proofs.Ending.{on-err, on-ok}
 
 -- both sides stay where the stores and all numbers do
 pub sides-stay : (x : DuplicateSaid) (from from' to to' : Option Held) (h h' : Option Shelved) → from' ≡ from → to' ≡ to → AllStay h h' → sides x from' to' h' ≡ sides x from to h
@@ -46,30 +49,61 @@ module _ (x : DuplicateSaid) (a b : Sides) (before now : Option (List ℕ)) wher
   untold-refusal ended.Store refusal same refuses none = absurd none
   untold-refusal ended.Keeper refusal same refuses none = absurd none
 
--- what is left of sides that stayed so far, with nothing written so far
-pub leaves-from : (x : DuplicateSaid) (a a' b : Sides) (before before' now : Option (List ℕ)) (e : Ended) → a' ≡ a → before' ≡ before → Leaves x a' b before' now e → Leaves x a b before now e
-leaves-from x a a' b before before' now e same silent left = coe 0 1 (i. Leaves x (same i) b (silent i) now e) left
+-- What is so behind each of its calls
 
--- What was ready was carried out, or stopped, from sides that stayed so far
+-- The sides are as they were, and nothing was written.
+pub record Stays (a b : Sides) (before now : Option (List ℕ)) : Type 0 where
+  pub same : b ≡ a
+  pub silent : now ≡ before
 
-module _ (x : DuplicateSaid) (a a' b : Sides) (same : a' ≡ a) (ready : Ready) (is : IsReady x a' ready) where
-  makes-here : Makes x a is.duplicate
-  makes-here = subst (λ y. Makes x y is.duplicate) same is.makes
+-- what is left of sides that stayed so far
+pub leaves-from : {x : DuplicateSaid} {a a' b : Sides} {before before' now : Option (List ℕ)} {e : Ended} → Stays a a' before before' → Leaves x a' b before' now e → Leaves x a b before now e
+leaves-from {x = x} {b = b} {now = now} {e = e} stays left = coe 0 1 (i. Leaves x (stays.same i) b (stays.silent i) now e) left
 
-  carried-here : Carried ready.change a'.to a'.target b.to b.target → Carried (commit_of is.duplicate) a.to a.target b.to b.target
-  carried-here carried = coe 0 1 (i. Carried (is.change i) (same i).to (same i).target b.to b.target) carried
+-- The source was opened
 
-  pub halts : (e : Stop) (before now : Option (List ℕ)) → now ≡ before → Halted ready.change a'.to a'.target b.to b.target → Leaves x a b before now (of_stop e)
-  halts e before now silent halted =
-      stopped-late x a b before now e is.duplicate silent makes-here.source.valid makes-here (coe 0 1 (i. Halted (is.change i) (same i).to (same i).target b.to b.target) halted)
+module _ (x : DuplicateSaid) {from from' : Option Held} {h h' : Option Shelved} {opened : Result View Unopened} {v : View} (is : opened ≡ Ok v) (same : from' ≡ from) (stay : AllStay h h') where
+  pub opened-source : IfOk opened (Opens from (under x.from h)) → IfOk opened (Shows from (under x.from h)) → OnOk opened (TellsValid (under x.from h)) → IsSource from' (under x.from h') v
+  opened-source opens shows valid = coe 1 0 (i. IsSource (same i) (under-stays x.from h h' stay i) v) (source-of from (under x.from h) opened v is opens shows valid)
 
-  pub untold-lines : (before before' now : Option (List ℕ)) → before' ≡ before → Carried ready.change a'.to a'.target b.to b.target → WritesFront before' now ready.text → Leaves x a b before now ended.Sink
-  untold-lines before before' now silent carried front = in_lines is.duplicate makes-here (carried-here carried) (coe 0 1 (i. WritesFront (silent i) now (is.text i)) front)
+  pub opened-stays : (to : Option Held) {before before' : Option (List ℕ)} → OnOk opened (before' ≡ before) → Stays (sides x from to h) (sides x from' to h') before before'
+  opened-stays to {before = before} {before' = before'} silent = record { same = sides-stay x from from' to to h h' same refl stay; silent = on-ok (before' ≡ before) opened v is silent }
 
-  pub finishes : (before before' now : Option (List ℕ)) → before' ≡ before → Carried ready.change a'.to a'.target b.to b.target → Appends before' now ready.text → Finishes x a b before now
-  finishes before before' now silent carried written = record {
-    duplicate = is.duplicate;
-    makes = makes-here;
-    carried = carried-here carried;
-    written = coe 0 1 (i. Appends (silent i) now (is.text i)) written;
-  }
+-- All was prepared from sides that stayed so far.
+pub record Prepared (x : DuplicateSaid) (a last : Sides) (before now : Option (List ℕ)) (ready : Ready) : Type 0 where
+  pub stays : Stays a last before now
+  pub is : IsReady x a ready
+
+pub prepared-from : {x : DuplicateSaid} {a : Sides} {from from' to to' : Option Held} {h h' : Option Shelved} {before before' now : Option (List ℕ)} {ready : Ready} → Stays a (sides x from to h) before before'
+    → IsReady x (sides x from to h) ready → from' ≡ from → to' ≡ to → AllStay h h' → now ≡ before' → Prepared x a (sides x from' to' h') before now ready
+prepared-from {x = x} {from = from} {from' = from'} {to = to} {to' = to'} {h = h} {h' = h'} {ready = ready} stays is same_from same_to stay silent = record {
+  stays = record { same = sides-stay x from from' to to' h h' same_from same_to stay ∙ stays.same; silent = silent ∙ stays.silent };
+  is = subst (λ y. IsReady x y ready) stays.same is;
+}
+
+-- It was carried out, or stopped
+
+module _ {x : DuplicateSaid} {a last : Sides} {before now : Option (List ℕ)} {ready : Ready} (p : Prepared x a last before now ready) {b : Sides} {A : Type 0} {carried : Result A Stop} where
+  pub halts : {e : Stop} {ended : Ended} → carried ≡ Err e → OnErr carried (Halted ready.change last.to last.target b.to b.target) → ended ≡ of_stop e → Leaves x a b before now ended
+  halts {e = e} is halted as =
+      let left = on-err (Halted ready.change last.to last.target b.to b.target) carried e is halted in
+      subst (Leaves x a b before now) (sym as)
+      (stopped-late x a b before now e p.is.duplicate p.stays.silent p.is.makes.source.valid p.is.makes (coe 0 1 (i. Halted (p.is.change i) (p.stays.same i).to (p.stays.same i).target b.to b.target) left))
+
+  module _ {y : A} (is : carried ≡ Ok y) (done : OnOk carried (Carried ready.change last.to last.target b.to b.target)) {bytes : List ℕ} (told : bytes ≡ ready.text) where
+    here : Carried (commit_of p.is.duplicate) a.to a.target b.to b.target
+    here = coe 0 1 (i. Carried (p.is.change i) (p.stays.same i).to (p.stays.same i).target b.to b.target) (on-ok (Carried ready.change last.to last.target b.to b.target) carried y is done)
+
+    text : bytes ≡ lines_text x p.is.duplicate
+    text = told ∙ p.is.text
+
+    pub untold-lines : {after : Option (List ℕ)} → WritesFront now after bytes → Leaves x a b before after ended.Sink
+    untold-lines {after = after} front = in_lines p.is.duplicate p.is.makes here (coe 0 1 (i. WritesFront (p.stays.silent i) after (text i)) front)
+
+    pub finishes : {after : Option (List ℕ)} → Appends now after bytes → Finishes x a b before after
+    finishes {after = after} written = record {
+      duplicate = p.is.duplicate;
+      makes = p.is.makes;
+      carried = here;
+      written = coe 0 1 (i. Appends (p.stays.silent i) after (text i)) written;
+    }

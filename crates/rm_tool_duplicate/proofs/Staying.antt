@@ -20,6 +20,10 @@ all-then a b c first then = both-then Same Same Same (λ x y z one two n. two n 
 pub others-then : (n : ℕ) (a b c : Option Shelved) → AllStay a b → OthersStay n b c → OthersStay n a c
 others-then n a b c first then = both-then Same (SameBut n) (SameBut n) (λ x y z one two m apart. two m apart ∙ one m) a b c first then
 
+-- where all stay twice, and then the others
+pub others-after : (n : ℕ) (a b c d : Option Shelved) → AllStay a b → AllStay b c → OthersStay n c d → OthersStay n a d
+others-after n a b c d first then last = others-then n a c d (all-then a b c first then) last
+
 -- the others stay, and so does the one
 pub all-stay : (n : ℕ) (a b : Option Shelved) → OthersStay n a b → under n b ≡ under n a → AllStay a b
 all-stay n None b others kept = others
