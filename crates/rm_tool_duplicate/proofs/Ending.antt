@@ -57,53 +57,65 @@ pub record Stays (a b : Sides) (before now : Option (List ℕ)) : Type 0 where
   pub silent : now ≡ before
 
 -- what is left of sides that stayed so far
-pub leaves-from : {x : DuplicateSaid} {a a' b : Sides} {before before' now : Option (List ℕ)} {e : Ended} → Stays a a' before before' → Leaves x a' b before' now e → Leaves x a b before now e
-leaves-from {x = x} {b = b} {now = now} {e = e} stays left = coe 0 1 (i. Leaves x (stays.same i) b (stays.silent i) now e) left
+pub leaves-from : (x : DuplicateSaid) {a a' : Sides} (b : Sides) {before before' : Option (List ℕ)} (now : Option (List ℕ)) (e : Ended) → Stays a a' before before'
+    → Leaves x a' b before' now e → Leaves x a b before now e
+leaves-from x b now e stays left = coe 0 1 (i. Leaves x (stays.same i) b (stays.silent i) now e) left
 
 -- The source was opened
 
-module _ (x : DuplicateSaid) {from from' : Option Held} {h h' : Option Shelved} {opened : Result View Unopened} {v : View} (is : opened ≡ Ok v) (same : from' ≡ from) (stay : AllStay h h') where
-  pub opened-source : IfOk opened (Opens from (under x.from h)) → IfOk opened (Shows from (under x.from h)) → OnOk opened (TellsValid (under x.from h)) → IsSource from' (under x.from h') v
-  opened-source opens shows valid = coe 1 0 (i. IsSource (same i) (under-stays x.from h h' stay i) v) (source-of from (under x.from h) opened v is opens shows valid)
+module _ (x : DuplicateSaid) {from from' : Option Held} (h h' : Option Shelved) {opened : Result View Unopened} {v : View} (is : opened ≡ Ok v) (same : from' ≡ from)
+    (stay : AllStay h h') where
+  pub opened-source : IfOk opened (Opens from (under x.from h)) → IfOk opened (Shows from (under x.from h)) → OnOk opened (TellsValid (under x.from h))
+      → IsSource from' (under x.from h') v
+  opened-source opens shows valid =
+      coe 1 0 (i. IsSource (same i) (under-stays x.from h h' stay i) v) (source-of from (under x.from h) opened v is opens shows valid)
 
-  pub opened-stays : (to : Option Held) {before before' : Option (List ℕ)} → OnOk opened (before' ≡ before) → Stays (sides x from to h) (sides x from' to h') before before'
-  opened-stays to {before = before} {before' = before'} silent = record { same = sides-stay x from from' to to h h' same refl stay; silent = on-ok (before' ≡ before) opened v is silent }
+  pub opened-stays : (to : Option Held) {before before' : Option (List ℕ)} → OnOk opened (before' ≡ before)
+      → Stays (sides x from to h) (sides x from' to h') before before'
+  opened-stays to {before = before} {before' = before'} silent =
+      record { same = sides-stay x from from' to to h h' same refl stay; silent = on-ok (before' ≡ before) opened v is silent }
 
 -- All was prepared from sides that stayed so far.
 pub record Prepared (x : DuplicateSaid) (a last : Sides) (before now : Option (List ℕ)) (ready : Ready) : Type 0 where
   pub stays : Stays a last before now
   pub is : IsReady x a ready
 
-pub prepared-from : {x : DuplicateSaid} {a : Sides} {from from' to to' : Option Held} {h h' : Option Shelved} {before before' now : Option (List ℕ)} {ready : Ready} → Stays a (sides x from to h) before before'
+pub prepared-from : {x : DuplicateSaid} {a : Sides} {from from' to to' : Option Held} (h h' : Option Shelved) {before before' now : Option (List ℕ)} {ready : Ready}
+    → Stays a (sides x from to h) before before'
     → IsReady x (sides x from to h) ready → from' ≡ from → to' ≡ to → AllStay h h' → now ≡ before' → Prepared x a (sides x from' to' h') before now ready
-prepared-from {x = x} {from = from} {from' = from'} {to = to} {to' = to'} {h = h} {h' = h'} {ready = ready} stays is same_from same_to stay silent = record {
+prepared-from {x = x} {from = from} {from' = from'} {to = to} {to' = to'} h h' {ready = ready} stays is same_from same_to stay silent = record {
   stays = record { same = sides-stay x from from' to to' h h' same_from same_to stay ∙ stays.same; silent = silent ∙ stays.silent };
   is = subst (λ y. IsReady x y ready) stays.same is;
 }
 
 -- It was carried out, or stopped
 
-module _ {x : DuplicateSaid} {a last : Sides} {before now : Option (List ℕ)} {ready : Ready} (p : Prepared x a last before now ready) {b : Sides} {A : Type 0} {carried : Result A Stop} where
-  pub halts : {e : Stop} {ended : Ended} → carried ≡ Err e → OnErr carried (Halted ready.change last.to last.target b.to b.target) → ended ≡ of_stop e → Leaves x a b before now ended
-  halts {e = e} is halted as =
-      let left = on-err (Halted ready.change last.to last.target b.to b.target) carried e is halted in
-      subst (Leaves x a b before now) (sym as)
-      (stopped-late x a b before now e p.is.duplicate p.stays.silent p.is.makes.source.valid p.is.makes (coe 0 1 (i. Halted (p.is.change i) (p.stays.same i).to (p.stays.same i).target b.to b.target) left))
+module _ {x : DuplicateSaid} {a last : Sides} {before now : Option (List ℕ)} {ready : Ready} (p : Prepared x a last before now ready) where
+  text : {bytes : List ℕ} → bytes ≡ ready.text → bytes ≡ lines_text x p.is.duplicate
+  text told = told ∙ p.is.text
 
-  module _ {y : A} (is : carried ≡ Ok y) (done : OnOk carried (Carried ready.change last.to last.target b.to b.target)) {bytes : List ℕ} (told : bytes ≡ ready.text) where
-    here : Carried (commit_of p.is.duplicate) a.to a.target b.to b.target
-    here = coe 0 1 (i. Carried (p.is.change i) (p.stays.same i).to (p.stays.same i).target b.to b.target) (on-ok (Carried ready.change last.to last.target b.to b.target) carried y is done)
+  module _ (b : Sides) {A : Type 0} {carried : Result A Stop} where
+    pub halts : {e : Stop} {ended : Ended} → carried ≡ Err e → OnErr carried (Halted ready.change last.to last.target b.to b.target) → ended ≡ of_stop e
+        → Leaves x a b before now ended
+    halts {e = e} is halted same =
+        let left = on-err (Halted ready.change last.to last.target b.to b.target) carried e is halted in
+        let here = coe 0 1 (i. Halted (p.is.change i) (p.stays.same i).to (p.stays.same i).target b.to b.target) left in
+        subst (Leaves x a b before now) (sym same) (stopped-late x a b before now e p.is.duplicate p.stays.silent p.is.makes.source.valid p.is.makes here)
 
-    text : bytes ≡ lines_text x p.is.duplicate
-    text = told ∙ p.is.text
+    module _ {y : A} (is : carried ≡ Ok y) (done : OnOk carried (Carried ready.change last.to last.target b.to b.target)) where
+      all-carried : Carried (commit_of p.is.duplicate) a.to a.target b.to b.target
+      all-carried =
+          coe 0 1 (i. Carried (p.is.change i) (p.stays.same i).to (p.stays.same i).target b.to b.target)
+          (on-ok (Carried ready.change last.to last.target b.to b.target) carried y is done)
 
-    pub untold-lines : {after : Option (List ℕ)} → WritesFront now after bytes → Leaves x a b before after ended.Sink
-    untold-lines {after = after} front = in_lines p.is.duplicate p.is.makes here (coe 0 1 (i. WritesFront (p.stays.silent i) after (text i)) front)
+      pub untold-lines : {bytes : List ℕ} {after : Option (List ℕ)} → bytes ≡ ready.text → WritesFront now after bytes → Leaves x a b before after ended.Sink
+      untold-lines {after = after} told front =
+          in_lines p.is.duplicate p.is.makes all-carried (coe 0 1 (i. WritesFront (p.stays.silent i) after (text told i)) front)
 
-    pub finishes : {after : Option (List ℕ)} → Appends now after bytes → Finishes x a b before after
-    finishes {after = after} written = record {
-      duplicate = p.is.duplicate;
-      makes = p.is.makes;
-      carried = here;
-      written = coe 0 1 (i. Appends (p.stays.silent i) after (text i)) written;
-    }
+      pub finishes : {bytes : List ℕ} {after : Option (List ℕ)} → bytes ≡ ready.text → Appends now after bytes → Finishes x a b before after
+      finishes {after = after} told written = record {
+        duplicate = p.is.duplicate;
+        makes = p.is.makes;
+        carried = all-carried;
+        written = coe 0 1 (i. Appends (p.stays.silent i) after (text told i)) written;
+      }
