@@ -1,13 +1,15 @@
 -- What serving left, of the script that was read and the site that was opened.
-use Rattle.std.proofs.Common.{◌≡◌, ℕ, Bool, List, Option, Some, None, if◌then◌else◌, sym, subst}
+use Rattle.std.{specs.Prelude.{IsErrOf}, proofs.Common.{◌≡◌, ℕ, Bool, List, Option, Some, None, Result, Err, if◌then◌else◌, sym, subst}}
 use Rattle.rm_base.specs.Store.{Held}
 use Rattle.rm_catalog.specs.declared.record.Record.{Record}
 use Rattle.rm_lang_token.specs.{Statements.{statements}, declared.token.Token.{Token}}
 use Rattle.rm_machine.specs.Machine.{Machine}
 use Rattle.rm_machine_laws.specs.Holds.{View}
-use Rattle.rm_tool_opening.specs.{Opens.{Opens, Shows}, Opening.{FromRest}}
+use Rattle.rm_tool_opening.specs.{Opens.{Opens, Shows}, Opening.{FromRest, TellsValid}}
 use Rattle.rm_tool.specs.{Run.{Watch}, Serving.{FromEach, Closes, EndsInOutput, EndsMidway, at_saving, at_statement}}
-use Rattle.rm_tool.specs.Session.{Finishes, HasScript, OfOpened, OfScript, ScriptOf}
+use Rattle.rm_tool.specs.Session.{EndsEarly, Finishes, HasScript, OfOpened, OfScript, ScriptOf, in_output, midway}
+use Rattle.rm_tool.specs.{Early.{Leaves, of_halt}, Words.{drill_of}, declared.early.Halt.{Halt}}
+use Rattle.rm_tool.specs.declared.early.Halt.TheVariants as halt
 
 -- what is so of each machine that the opened site stands for is so of the one that wakes
 from-opening : (held : Option Held) (kept : Option (List Record)) (v : View) (Is : Machine → Type 0) → Opens held kept v → FromEach held kept v Is → FromRest held kept Is
@@ -118,7 +120,7 @@ module _ {said : Option ℕ} {left rest : Option (List ℕ)} {clock later : Watc
         tells = tells;
       })
 
-  pub ends-midway : EndsMidway (FromEach held' kept' v) v.state drill clock later mid now held' kept' last_held last_kept ss → OfScript said left rest (λ ts. OfOpened held kept (λ o. EndsMidway (FromRest held kept) o said clock later before now held kept last_held last_kept ts))
+  ends-midway : EndsMidway (FromEach held' kept' v) v.state drill clock later mid now held' kept' last_held last_kept ss → OfScript said left rest (λ ts. OfOpened held kept (λ o. EndsMidway (FromRest held kept) o said clock later before now held kept last_held last_kept ts))
   ends-midway s =
       subst (λ (d : Option ℕ). OfScript d left rest (λ ts. OfOpened held kept (λ o. EndsMidway (FromRest held kept) o d clock later before now held kept last_held last_kept ts))) (sym says)
       (of-script (λ h k b ts. EndsMidway (FromEach h k v) v.state drill clock later b now h k last_held last_kept ts) (λ ts. OfOpened held kept (λ o. EndsMidway (FromRest held kept) o drill clock later before now held kept last_held last_kept ts))
@@ -127,12 +129,32 @@ module _ {said : Option ℕ} {left rest : Option (List ℕ)} {clock later : Watc
 -- The same, where the sink failed.
 module _ {said : Option ℕ} {left rest : Option (List ℕ)} {before mid : Option (List ℕ)} {held held' : Option Held} {kept kept' : Option (List Record)} {ss : List (ℕ × List Token)} (drill : Option ℕ) (says : said ≡ drill) (script : List ℕ) (v : View)
     (read : ScriptOf drill left rest script) (cut : ss ≡ statements script) (silent : mid ≡ before) (held_same : held' ≡ held) (kept_same : kept' ≡ kept) (opens : Opens held kept v) (shows : Shows held kept v) where
-  pub ends-in-output : (clock later : Watch) (now : Option (List ℕ)) (last_held : Option Held) (last_kept : Option (List Record)) → EndsInOutput (FromEach held' kept' v) v.state drill clock later mid now held' kept' last_held last_kept ss → OfScript said left rest (λ ts. OfOpened held kept (λ o. EndsInOutput (FromRest held kept) o said clock later before now held kept last_held last_kept ts))
+  ends-in-output : (clock later : Watch) (now : Option (List ℕ)) (last_held : Option Held) (last_kept : Option (List Record)) → EndsInOutput (FromEach held' kept' v) v.state drill clock later mid now held' kept' last_held last_kept ss → OfScript said left rest (λ ts. OfOpened held kept (λ o. EndsInOutput (FromRest held kept) o said clock later before now held kept last_held last_kept ts))
   ends-in-output clock later now last_held last_kept s =
       subst (λ (d : Option ℕ). OfScript d left rest (λ ts. OfOpened held kept (λ o. EndsInOutput (FromRest held kept) o d clock later before now held kept last_held last_kept ts))) (sym says)
       (of-script (λ h k b ts. EndsInOutput (FromEach h k v) v.state drill clock later b now h k last_held last_kept ts) (λ ts. OfOpened held kept (λ o. EndsInOutput (FromRest held kept) o drill clock later before now held kept last_held last_kept ts))
       drill left rest before mid held held' kept kept' ss script read cut silent held_same kept_same (λ ts is. (v, shows, output-from v held last_held kept last_kept clock later before now ts drill opens is)) s)
 
+-- What a run leaves whose session ended early.
+module _ (words : List (List ℕ)) (left rest : Option (List ℕ)) {before mid : Option (List ℕ)} {held held' : Option Held} {kept kept' : Option (List Record)} {ss : List (ℕ × List Token)} (drill : Option ℕ) (says : drill_of words ≡ drill) (script : List ℕ) (v : View)
+    (read : ScriptOf drill left rest script) (cut : ss ≡ statements script) (silent : mid ≡ before) (held_same : held' ≡ held) (kept_same : kept' ≡ kept) (opens : Opens held kept v) (shows : Shows held kept v) (valid : TellsValid kept)
+    (clock later : Watch) (now : Option (List ℕ)) (last_held : Option Held) (last_kept : Option (List Record)) where
+  abbrev Midway : Type 0
+  Midway = EndsMidway (FromEach held' kept' v) v.state drill clock later mid now held' kept' last_held last_kept ss
+
+  left-midway : Midway → EndsEarly (drill_of words) left rest clock later before now held kept last_held last_kept
+  left-midway s = midway valid (ends-midway drill says script v read cut silent held_same kept_same opens shows s)
+
+  pub in-session : (e : Halt) {A : Type 0} {served : Result A Halt} → served ≡ Err e
+      → (IsErrOf served halt.Sink → EndsInOutput (FromEach held' kept' v) v.state drill clock later mid now held' kept' last_held last_kept ss)
+      → (IsErrOf served halt.Store → Midway) → (IsErrOf served halt.Keeper → Midway) → (IsErrOf served halt.NoMemory → Midway)
+      → Leaves words left rest clock later before now held kept last_held last_kept (of_halt e)
+  in-session halt.Sink was sink store keeper memory =
+      in_output valid (ends-in-output drill says script v read cut silent held_same kept_same opens shows clock later now last_held last_kept (sink was))
+  in-session halt.Store was sink store keeper memory = (valid, left-midway (store was))
+  in-session halt.Keeper was sink store keeper memory = left-midway (keeper was)
+  in-session halt.NoMemory was sink store keeper memory = left-midway (memory was)
+
 -- there is a script, where the words say this drill
-pub has-script : {said : Option ℕ} (left rest : Option (List ℕ)) (drill : Option ℕ) → said ≡ drill → (script : List ℕ) → ScriptOf drill left rest script → HasScript said left rest
-has-script left rest drill says script read = subst (λ (d : Option ℕ). HasScript d left rest) (sym says) (script, read)
+pub has-script : {said : Option ℕ} (left rest : Option (List ℕ)) {drill : Option ℕ} → said ≡ drill → (script : List ℕ) → ScriptOf drill left rest script → HasScript said left rest
+has-script left rest says script read = subst (λ (d : Option ℕ). HasScript d left rest) (sym says) (script, read)

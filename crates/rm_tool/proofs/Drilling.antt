@@ -1,5 +1,5 @@
 -- What a drill shows, of which no reply is kept.
-use Rattle.std.{specs.List.{list_any}, proofs.Common.{◌≡◌, ◌≤◌, ◌∙◌, ◌-◌, ℕ, Bool, List, Option, Some, None, ap, subst, sym, arith, length}}
+use Rattle.std.{specs.List.{list_any}, proofs.Common.{◌≡◌, ◌≤◌, ◌∙◌, ℕ, Bool, List, Option, Some, None, ap, subst, sym, arith, length}}
 use Rattle.rm_base.specs.{Outside.{Appends}, Store.{Held}}
 use Rattle.rm_catalog.specs.declared.record.Record.{Record}
 use Rattle.rm_lang_token.specs.declared.token.Token.{Token}

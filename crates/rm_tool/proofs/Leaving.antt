@@ -1,18 +1,18 @@
 -- What a run leaves that ended early, of how the calls below it did.
-use Rattle.std.specs.Prelude.{IsErrAnd}
-use Rattle.std.proofs.Common.{◌≡◌, ◌∙◌, ℕ, Bool, List, Option, Result, Ok, Err, Contains, [], ◌∷◌, lit<, arith, refl, subst, sym}
+use Rattle.std.specs.Prelude.{IsErrAnd, IsErrOf}
+use Rattle.std.proofs.Common.{◌≡◌, ◌≤◌, ◌∙◌, ℕ, Bool, List, Option, Result, Ok, Err, Contains, [], ◌∷◌, lit<, arith, refl, subst, sym}
 use Rattle.rm_base.specs.{Outside.{Rose}, Store.{Held}}
 use Rattle.rm_catalog.specs.declared.record.Record.{Record}
 use Rattle.rm_tool.specs.Early.{EndsAtScript, EndsAtWords, Faults, Leaves, NoneFalls, RoseAtSink, RoseFor, of_halt, of_unopened, status_for, status_of}
 use Rattle.rm_tool.specs.Run.{Watch}
-use Rattle.rm_tool.specs.Session.{EndsEarly, HasScript, NoneRan, WritesPart, before_statements, in_bad_record, in_bad_words, in_over_long}
+use Rattle.rm_tool.specs.Session.{HasScript, NoneRan, before_statements, in_bad_record, in_bad_words, in_over_long}
 use Rattle.rm_tool.specs.{Words.{drill_of}, declared.early.{Early.{Early}, Halt.{Halt}}}
 use Rattle.rm_tool.specs.declared.early.Early.TheVariants as early
 use Rattle.rm_tool.specs.declared.early.Halt.TheVariants as halt
-use Rattle.rm_tool_opening.specs.{Opening.{RoseUnopened, WritesUnopened, TellsValid}, declared.opening.Unopened.{Unopened}}
+use Rattle.rm_tool_opening.specs.{Opening.{RoseUnopened, WritesUnopened}, declared.opening.Unopened.{Unopened}}
 use Rattle.rm_tool_opening.specs.declared.opening.Unopened.TheVariants as unopened
 
-module _ (words : List (List ℕ)) (left rest : Option (List ℕ)) (clock later : Watch) (before now : Option (List ℕ)) (held : Option Held) (kept : Option (List Record)) (held' : Option Held) (kept' : Option (List Record)) where
+module _ (words : List (List ℕ)) (left rest : Option (List ℕ)) (clock : Watch) (before now : Option (List ℕ)) (held : Option Held) (kept : Option (List Record)) {later : Watch} {held' : Option Held} {kept' : Option (List Record)} where
   -- the words were not accepted
   pub at-words : (e : Early) → NoneRan clock later held kept held' kept' → EndsAtWords words before now e → Leaves words left rest clock later before now held kept held' kept' e
   at-words early.Words none written = (written.0, written.1, none)
@@ -25,36 +25,43 @@ module _ (words : List (List ℕ)) (left rest : Option (List ℕ)) (clock later 
   at-words early.Keeper none never = absurd never
 
   -- no script was taken
-  pub at-script : (e : Early) → NoneRan clock later held kept held' kept' → EndsAtScript left before now e → Leaves words left rest clock later before now held kept held' kept' e
-  at-script early.Source none silent = (silent, none)
-  at-script early.TooLong none written = (written.0, written.1, none)
-  at-script early.Sink none written = in_over_long written.0 none written.1
-  at-script early.NoMemory none silent = before_statements silent none
-  at-script early.Words none never = absurd never
-  at-script early.BadRecord none never = absurd never
-  at-script early.Store none never = absurd never
-  at-script early.Keeper none never = absurd never
+  script-ends : (e : Early) → NoneRan clock later held kept held' kept' → EndsAtScript left before now e → Leaves words left rest clock later before now held kept held' kept' e
+  script-ends early.Source none silent = (silent, none)
+  script-ends early.TooLong none written = (written.0, written.1, none)
+  script-ends early.Sink none written = in_over_long written.0 none written.1
+  script-ends early.NoMemory none silent = before_statements silent none
+  script-ends early.Words none never = absurd never
+  script-ends early.BadRecord none never = absurd never
+  script-ends early.Store none never = absurd never
+  script-ends early.Keeper none never = absurd never
+
+  pub at-script : (e : Early) {mid : Option (List ℕ)} → NoneRan clock later held kept held' kept' → mid ≡ before → EndsAtScript left mid now e → Leaves words left rest clock later before now held kept held' kept' e
+  at-script e none silent ends = script-ends e none (coe 0 1 (i. EndsAtScript left (silent i) now e) ends)
 
   -- the site could not be opened
-  pub at-opening : (e : Unopened) → HasScript (drill_of words) left rest → NoneRan clock later held kept held' kept' → WritesUnopened kept before now e → Leaves words left rest clock later before now held kept held' kept' (of_unopened e)
-  at-opening unopened.BadRecord has none written = (has, written, none)
-  at-opening unopened.Sink has none front = in_bad_record none front
-  at-opening unopened.Store has none silent = (silent.0, before_statements silent.1 none)
-  at-opening unopened.Keeper has none silent = before_statements silent none
-  at-opening unopened.NoMemory has none silent = before_statements silent none
+  opening-ends : (e : Unopened) → HasScript (drill_of words) left rest → NoneRan clock later held kept held' kept' → WritesUnopened kept before now e → Leaves words left rest clock later before now held kept held' kept' (of_unopened e)
+  opening-ends unopened.BadRecord has none written = (has, written, none)
+  opening-ends unopened.Sink has none front = in_bad_record none front
+  opening-ends unopened.Store has none silent = (silent.0, before_statements silent.1 none)
+  opening-ends unopened.Keeper has none silent = before_statements silent none
+  opening-ends unopened.NoMemory has none silent = before_statements silent none
 
-  -- the session ended early
-  pub in-session : (e : Halt) → TellsValid kept → (e ≡ halt.Sink → WritesPart words left rest clock later before now held kept held' kept') → (e ≡ halt.Store → EndsEarly (drill_of words) left rest clock later before now held kept held' kept')
-      → (e ≡ halt.Keeper → EndsEarly (drill_of words) left rest clock later before now held kept held' kept') → (e ≡ halt.NoMemory → EndsEarly (drill_of words) left rest clock later before now held kept held' kept')
-      → Leaves words left rest clock later before now held kept held' kept' (of_halt e)
-  in-session halt.Sink valid sink store keeper memory = sink refl
-  in-session halt.Store valid sink store keeper memory = (valid, store refl)
-  in-session halt.Keeper valid sink store keeper memory = keeper refl
-  in-session halt.NoMemory valid sink store keeper memory = memory refl
+  pub at-opening : (e : Unopened) {mid : Option (List ℕ)} → HasScript (drill_of words) left rest → NoneRan clock later held kept held' kept' → mid ≡ before → WritesUnopened kept mid now e → Leaves words left rest clock later before now held kept held' kept' (of_unopened e)
+  at-opening e has none silent ends = opening-ends e has none (coe 0 1 (i. WritesUnopened kept (silent i) now e) ends)
 
--- no count falls from itself
-pub none-falls : (a : Faults) → NoneFalls a a
-none-falls a = record { source = omega arith; sink = omega arith; store = omega arith; keeper = omega arith }
+-- No count fell where the words were read, where the script was, and where the site was opened
+
+pub words-falls : {source sink sink' store keeper : ℕ} → sink ≤ sink'
+    → NoneFalls (record { source = source; sink = sink; store = store; keeper = keeper }) (record { source = source; sink = sink'; store = store; keeper = keeper })
+words-falls falls = record { source = omega arith; sink = falls; store = omega arith; keeper = omega arith }
+
+pub script-falls : {source source' sink sink' store keeper : ℕ} → (source ≤ source') × (sink ≤ sink')
+    → NoneFalls (record { source = source; sink = sink; store = store; keeper = keeper }) (record { source = source'; sink = sink'; store = store; keeper = keeper })
+script-falls falls = record { source = falls.0; sink = falls.1; store = omega arith; keeper = omega arith }
+
+pub opened-falls : {source sink sink' store store' keeper keeper' : ℕ} → (sink ≤ sink') × (store ≤ store') × (keeper ≤ keeper')
+    → NoneFalls (record { source = source; sink = sink; store = store; keeper = keeper }) (record { source = source; sink = sink'; store = store'; keeper = keeper' })
+opened-falls falls = record { source = omega arith; sink = falls.0; store = falls.1; keeper = falls.2 }
 
 -- counts that do not fall, from call to call
 pub falls-then : (a b c : Faults) → NoneFalls a b → NoneFalls b c → NoneFalls a c
@@ -96,11 +103,12 @@ rose-at-opening a b unopened.Keeper rose = rose
 rose-at-opening a b unopened.NoMemory rose = tt
 
 -- and where the session ended early
-pub rose-in-session : (a b : Faults) (e : Halt) → (e ≡ halt.Sink → Rose a.sink b.sink) → (e ≡ halt.Store → Rose a.store b.store) → (e ≡ halt.Keeper → Rose a.keeper b.keeper) → RoseFor a b (of_halt e)
-rose-in-session a b halt.Sink sink store keeper = sink refl
-rose-in-session a b halt.Store sink store keeper = store refl
-rose-in-session a b halt.Keeper sink store keeper = keeper refl
-rose-in-session a b halt.NoMemory sink store keeper = tt
+pub rose-in-session : (a b : Faults) (e : Halt) {A : Type 0} {served : Result A Halt} → served ≡ Err e → (IsErrOf served halt.Sink → Rose a.sink b.sink) → (IsErrOf served halt.Store → Rose a.store b.store)
+    → (IsErrOf served halt.Keeper → Rose a.keeper b.keeper) → RoseFor a b (of_halt e)
+rose-in-session a b halt.Sink was sink store keeper = sink was
+rose-in-session a b halt.Store was sink store keeper = store was
+rose-in-session a b halt.Keeper was sink store keeper = keeper was
+rose-in-session a b halt.NoMemory was sink store keeper = tt
 
 -- words that are not accepted have one of three statuses
 pub words-status : (words : List (List ℕ)) (before now : Option (List ℕ)) (e : Early) → EndsAtWords words before now e → Contains (2 ∷ 4 ∷ 7 ∷ []) (status_for e)
@@ -123,7 +131,10 @@ pub err-is : (r : Result Bool Early) (e f : Early) → IsErrAnd r (λ x. x ≡ e
 err-is (Ok refused) e f is how = absurd is
 err-is (Err x) e f is how = let same : x ≡ f = cc in sym is ∙ same
 
--- a script that is too long is not found behind the source
+-- a script that is too long is not found before the source, nor behind it
+pub never-long-words : (words : List (List ℕ)) (before now : Option (List ℕ)) (e : Early) → EndsAtWords words before now e → ¬ (e ≡ early.TooLong)
+never-long-words words before now e written is = subst (EndsAtWords words before now) is written
+
 pub never-long-opening : (e : Unopened) → ¬ (of_unopened e ≡ early.TooLong)
 never-long-opening unopened.BadRecord is = absurd (cc)
 never-long-opening unopened.Sink is = absurd (cc)
