@@ -1,4 +1,5 @@
 pub mod Beside
+pub mod Least
 pub mod Mends
 pub mod Rows
 pub mod Told

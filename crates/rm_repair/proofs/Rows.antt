@@ -1,6 +1,6 @@
 -- The rows behind mends and writes.
 use Rattle.std.specs.List.{list_any}
-use Rattle.std.proofs.Common.{◌≡◌, ◌≢◌, ◌∙◌, ◌⊎◌, ◌==◌, ◌&&◌, ◌||◌, ◌+◌, ◌≤◌, inl, inr, ℕ, suc, Bool, true, false, Option, Some, None, Ok, Err, IsSome, is_some, List, [], ◌∷◌, ◌++◌, All, Contains, cond, find, map, refl, ap, subst, sym, arith}
+use Rattle.std.proofs.Common.{◌≡◌, ◌∙◌, ◌⊎◌, ◌==◌, ◌&&◌, ◌||◌, ◌+◌, ◌≤◌, inl, inr, ℕ, suc, Bool, true, false, Option, Some, None, Ok, Err, IsSome, is_some, List, [], ◌∷◌, ◌++◌, All, Contains, cond, find, map, refl, ap, subst, sym, arith}
 use Rattle.std.proofs.lemmas.{Bool.{and_from, and_parts, cases_Bool, eq-eqb, eqb-true, or_parts}, List.Elements.{All-contains, All-weaker}}
 use Rattle.rm_base.{specs.declared.block.Row.{Row}, proofs.{Members.{behind, in-front}, Slots.{get-set_other, get-set_same}}}
 use Rattle.rm_blocks.specs.File.{File, put}

@@ -1,5 +1,5 @@
 -- What a statement comes to that the state does not refuse.
-use Rattle.std.proofs.Common.{◌≡◌, false, Option, Some, None, refl, ap, sym, subst}
+use Rattle.std.proofs.Common.{◌≡◌, ◌∙◌, Bool, true, false, Option, Some, None, Result, Ok, Err, IfOk, refl, ap, sym, subst}
 use Rattle.rm_base.specs.Store.{Held}
 use Rattle.rm_lang_statement.specs.declared.command.Command.{Command}
 use Rattle.rm_machine.specs.{Comes.{IsAnswer, IsRefusedBy}, Hands.{Hands}, Laws.{only_tells}, Nature.{nature_of, tells}}
@@ -8,6 +8,11 @@ use Rattle.rm_machine.specs.declared.{handed.Handed.{Handed}, state.State.{State
 use Rattle.rm_machine.proofs.EveryStore.{nothing}
 use Rattle.rm_machine_laws.proofs.{Asking.{change-asks}, Every.{every-stays}}
 use Rattle.rm_site.proofs.DatedLines.{change-dated}
+
+-- what asks the store does not go by the state alone
+pub asks_store : {T E : Type 0} (r : Result T E) (b : Bool) (P : T → Type 0) → b ≡ false → IfOk r (λ x. b ≡ true → P x)
+asks_store (Ok x) b P asks = λ alone. absurd (let clash : true ≡ false = sym alone ∙ asks in cc)
+asks_store (Err e) b P asks = tt
 
 -- a change does more than tell
 change-does : (c : Command) → nature_of c ≡ Changes → only_tells c ≡ false

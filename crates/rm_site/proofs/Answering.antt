@@ -80,6 +80,10 @@ pub record Begins (s : State) (moment : ℕ) (r : TypedCatalog) (earlier : ℕ) 
   pub moment_is : earlier ≡ (ledger s).base.moment
   pub saved_is : saved ≡ s.catalog.saved
 
+pub begun : (s : State) (moment : ℕ) {r : TypedCatalog} {earlier : ℕ} {saved : Option Saved} → r ≡ without_saved (with_moment s.catalog moment) → earlier ≡ (ledger s).base.moment → saved ≡ s.catalog.saved
+    → Begins s moment r earlier saved
+begun s moment after moment_is saved_is = record { after = after; moment_is = moment_is; saved_is = saved_is }
+
 module _ {s : State} {moment : ℕ} {r : TypedCatalog} {earlier : ℕ} {saved : Option Saved} (begins : Begins s moment r earlier saved) where
   -- the state on which it acts
   abbrev b : State

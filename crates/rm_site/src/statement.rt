@@ -1,11 +1,12 @@
 //! What a statement comes to, where there is a database.
-ghost use Rattle.std.specs.Prelude.{◌≡◌, ◌≤◌, None, IfOk, IsTrue, IsErrOf, OnOk, IfSome};
-ghost use Rattle.rm_base.specs.Outside.{Rose};
+ghost use Rattle.std.specs.Prelude.{◌≡◌, ◌≤◌, true, Option, None, IfOk, IsTrue, IsErrOf, OnOk, IfSome};
+ghost use Rattle.rm_base.specs.{Outside.{Rose}, Store.{Held}};
 ghost use Rattle.rm_commit.specs.declared.commit.Stop.TheVariants.{StoreFault, KeeperFault};
 ghost use Rattle.rm_catalog_typed.specs.Changes.{EditsFollow};
 ghost use Rattle.rm_machine.specs.{Built.{is_built}, Comes.{AnswersPlainly, ComesTo, DoesMore, HadIds, IsAnswer, IsRefusedBy}};
 ghost use Rattle.rm_machine.specs.{Nature.{nature_of}, Sound.{IsSound}, Step.{IsStatement, refusal_of}};
 ghost use Rattle.rm_machine.specs.declared.nature.Nature.TheVariants.{ChangesByHeld, TellsHeld, TestsHeld, TriesByHeld};
+ghost use Rattle.rm_site.specs.ComesOut.{by_state};
 
 use crate::changing::change;
 use crate::refusing::refusal_of;
@@ -170,6 +171,7 @@ fn accepted<R: Threads + Wait + Sync, G: Gate, D: Store>(
     requires unsaved { state.old.catalog.saved ≡ None }
     requires accepted { refusal_of state.old command.now ≡ None }
     ensures answer { IfOk result (λ a. IsAnswer (D.held store.old) state.old command.now a state.new) }
+    ensures by_state { IfOk result (λ a. by_state (nature_of command.now) ≡ true → (held : Option Held) → ComesTo held state.old command.now a state.new) }
     ensures edits { OnOk result (EditsFollow edits.old.items edits.new.items state.old.catalog state.new.catalog) }
     ensures held { D.held store.new ≡ D.held store.old }
     ensures store { IsErrOf result StoreFault → Rose (D.faults store.old) (D.faults store.new) }
@@ -193,8 +195,9 @@ fn accepted<R: Threads + Wait + Sync, G: Gate, D: Store>(
     }
 }
 
-/// What a statement comes to. It begins at its moment, and no site is saved. The state refuses it exactly where
-/// `refusal_of` says so. After an error, which is a stop, nothing is said of the state and the edits.
+/// What a statement comes to; one that goes by the state alone does so whatever the store has. It begins at its moment, and no
+/// site is saved. The state refuses it exactly where `refusal_of` says so. After an error, which is a stop, nothing is said of
+/// the state and the edits.
 pub(crate) fn come_to<R: Threads + Wait + Sync, G: Gate, D: Store>(
     rt: &R,
     alloc: Global,
@@ -211,6 +214,7 @@ pub(crate) fn come_to<R: Threads + Wait + Sync, G: Gate, D: Store>(
     requires sound { IsSound state.old }
     requires unsaved { state.old.catalog.saved ≡ None }
     ensures comes { IfOk result (λ a. ComesTo (D.held store.old) state.old command.now a state.new) }
+    ensures by_state { IfOk result (λ a. by_state (nature_of command.now) ≡ true → (held : Option Held) → ComesTo held state.old command.now a state.new) }
     ensures refused { IfOk result (IsRefusedBy (refusal_of state.old command.now) command.now) }
     ensures edits { OnOk result (EditsFollow edits.old.items edits.new.items state.old.catalog state.new.catalog) }
     ensures sound { OnOk result (IsSound state.new) }

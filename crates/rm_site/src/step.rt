@@ -203,7 +203,8 @@ impl Site {
     /// One step of the machine: the reply to a statement, where the clock answered `clock`. A refusal is a
     /// reply too, and changes nothing. A refusal that the state decides is answered exactly where the state
     /// decides so, whatever the store and the keeper hold. Whatever these hold, they and the site stay as they are where the
-    /// statement is refused or only tells, and nothing is done where too few ids are left for a save.
+    /// statement is refused or only tells, and nothing is done where too few ids are left for a save. And whatever they tell,
+    /// a statement that goes by the state alone has the reply, and leaves the database, that the state says.
     ///
     /// What reads or makes objects goes by `channels` channels, or by as many as are configured where none are asked for.
     /// Those of a BACKUP and its writers call the gate.

@@ -143,8 +143,8 @@ pub fn cut<D: Store>(
     Ok(Ok(put(alloc, Line::Cut, name, bytes)?))
 }
 
-/// HOST RENAME: what stands under the old name comes to stand under the new one. It is refused where there is no object
-/// (RM-12), or where the new name is taken (RM-13). An error is a stop, as for REMOVE.
+/// HOST RENAME: what stands under the old name comes to stand under the new one, unless that is one of the saved site, whose objects
+/// then go. It is refused where there is no object (RM-12), or where the new name is taken (RM-13). An error is a stop, as for REMOVE.
 pub fn rename<D: Store>(
     alloc: Global,
     state: &State,

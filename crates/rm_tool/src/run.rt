@@ -73,8 +73,8 @@ fn session<R: Threads + Wait + Sync, G: Gate, S: Source, K: Sink, D: Store, C: K
 /// step and its reply is written, and then the site is saved. With the word `--drill` the script is the drill's, the source is not
 /// read, and before the site is saved one line is written in the place of all replies. Of which database `keeper` has the records, by the
 /// word `--database`, and whether another one follows it, by `--control`, is the caller's matter. The clock is asked once for each statement of
-/// the grammar. The channels of a statement are threads of `rt`, and so are the writers of a BACKUP; its threads call `gate`. The
-/// status is
+/// the grammar. The channels of a statement are threads of `rt`, and so are the writers of a BACKUP; its threads call `gate` (of
+/// which no clause tells). The status is
 /// - 0 where no reply is a refusal, 1 where one is,
 /// - 2 where the words are refused,
 /// - 3 where the source failed, 4 where the sink failed,
@@ -127,7 +127,7 @@ pub fn run<R: Threads + Wait + Sync, G: Gate, S: Source, K: Sink, D: Store, C: K
     ensures long_line { result ≡ 8 → Appends (K.contents sink.old) (K.contents sink.new) over_long }
     ensures long_only { Counted (S.taken source.old) → TakesMany (S.taken source.old) (S.taken source.new) → Contains (8 ∷ 4 ∷ 7 ∷ []) result }
 
-    // 9: exactly where the keeper's records are not valid, after the script was read; and the line of the first that breaks a rule was written.
+    // 9: exactly where the records that the keeper tells are not valid, after the script was read; and the line of the first that breaks a rule was written.
     ensures bad { result ≡ 9 → WritesBadRecord (C.kept keeper.old) (K.contents sink.old) (K.contents sink.new) }
     ensures bad_read { result ≡ 9 → HasScript (drill_of words.now) (S.left source.old) (S.left source.new) }
     ensures bad_only { (rs : List Record) → accepts words.now ≡ true → Counted (S.taken source.old) → ¬ TakesMany (S.taken source.old) (S.taken source.new) → C.kept keeper.old ≡ Some rs → ¬ AreValid rs → Contains (9 ∷ 4 ∷ 3 ∷ 6 ∷ 7 ∷ []) result }
@@ -135,7 +135,7 @@ pub fn run<R: Threads + Wait + Sync, G: Gate, S: Source, K: Sink, D: Store, C: K
     // At 2, 3, 8 and 9 no statement ran.
     ensures same { IsEarly result → NoneRan (watch (T.answers clock.old) (T.asked clock.old)) (watch (T.answers clock.new) (T.asked clock.new)) (D.held store.old) (C.kept keeper.old) (D.held store.new) (C.kept keeper.new) }
 
-    // There is no other status, and without a cause there is 0, 1 or 7.
+    // There is no other status, and without a cause there is 0, 1 or 7, where the keeper tells.
     ensures statuses { Contains (0 ∷ 1 ∷ 2 ∷ 3 ∷ 4 ∷ 5 ∷ 6 ∷ 7 ∷ 8 ∷ 9 ∷ []) result }
     ensures complete { accepts words.now ≡ true → Counted (S.taken source.old) → ¬ TakesMany (S.taken source.old) (S.taken source.new) → (rs : List Record) → C.kept keeper.old ≡ Some rs → AreValid rs → ¬ Rose (S.faults source.old) (S.faults source.new) → ¬ Rose (K.faults sink.old) (K.faults sink.new) → ¬ Rose (D.faults store.old) (D.faults store.new) → ¬ Rose (C.faults keeper.old) (C.faults keeper.new) → Contains (0 ∷ 1 ∷ 7 ∷ []) result }
 {

@@ -5,7 +5,7 @@ use Rattle.rm_evidence.specs.{Known.{known_of}, Database.{world_of}}
 use Rattle.rm_history.specs.{FirstGap.{IsTarget}, declared.world.World.{World}}
 use Rattle.rm_plan.{specs.Chosen.{IsFaultOf}, proofs.Faults.{handed_on}}
 use Rattle.rm_repair.specs.{Jobs.{AreMendJobs}, declared.jobs.MendJob.{MendJob}}
-use Rattle.rm_repair.proofs.Told.{All-behind, fault-behind, file-target, jobs-more, no-jobs, run-files, run-within}
+use Rattle.rm_repair.proofs.{Least.{least_fault}, Told.{All-behind, fault-behind, file-target, jobs-more, no-jobs, run-files, run-within}}
 use Rattle.rm_repair.proofs.jobs.mend_jobs.Goals as goal
 
 abbrev no_id : BlockId
@@ -59,6 +59,10 @@ returns-in_err-add_run-clause-gap c =
     let parts : run ++ rest ≡ c.runs.left.now = search rules in
     handed_on c.from_residual.result fault c.from_residual.ensures.1 (IsFaultOf w e c.args.i c.args.s c.args.blocks.now)
     (fault-behind w e c.args.i c.args.s i.0 run rest c.args.blocks.now c.runs.jobs.items fault (ap (λ (l : List BlockId). i.0 ++ l) parts ∙ i.1) i.2 c.in_err-add_run.ensures.gap)
+
+pub returns-in_err-add_run-clause-least : goal.returns-in_err-add_run-clause-least
+returns-in_err-add_run-clause-least c =
+    least_fault c.from_residual.result (world_of c.args.catalog.now) (known_of c.args.evidence.now) c.args.i c.args.s c.args.blocks.now (returns-in_err-add_run-clause-gap c)
 
 pub runs-preserved : goal.runs-preserved
 runs-preserved c =

@@ -1,5 +1,5 @@
 use Rattle.std.proofs.Common.{Some, ap, refl, subst, sym}
-use Rattle.rm_site.proofs.Answering.{Begins, answered-in, back-again, begins-sound, comes-refused, comes-told, handed-in, is-carried, on-err, is-halted, quiet-refused, quiet-told, refused-in, sound-again, told-in, valid-again}
+use Rattle.rm_site.proofs.Answering.{answered-in, back-again, begins-sound, begun, comes-refused, comes-told, handed-in, is-carried, on-err, is-halted, quiet-refused, quiet-told, refused-in, sound-again, told-in, valid-again}
 use Rattle.rm_site.proofs.{ComesOut.{out-done, out-refused, out-told}, Ids.{ids-before, refused-applies, told-applies}}
 use Rattle.rm_site.proofs.{Quiet.{done-more, done-not-quiet}, Plain.{done-plain, told-plain}}
 use Rattle.rm_site.proofs.step.answer_in.Goals as goal
@@ -8,55 +8,55 @@ use Rattle.rm_report.{specs.Reply.{HasDates}, proofs.Plain.{plain-dated, refused
 pub come_to-requires-clause-sound : goal.come_to-requires-clause-sound
 come_to-requires-clause-sound g c κs within =
     let was = c.in_ok-earlier.ensures in
-    let begins : Begins c.args.state.now c.args.moment c.begin.new.self c.in_ok-earlier.earlier.moment c.in_ok-earlier.earlier.saved = record { after = was.after; moment_is = was.moment; saved_is = was.saved } in
+    let begins = begun c.args.state.now c.args.moment was.after was.moment was.saved in
     begins-sound begins c.requires.sound c.requires.moment
 
 pub revert-requires : goal.revert-requires
 revert-requires g c =
     let was = c.in_ok-earlier.ensures in
-    let begins : Begins c.args.state.now c.args.moment c.begin.new.self c.in_ok-earlier.earlier.moment c.in_ok-earlier.earlier.saved = record { after = was.after; moment_is = was.moment; saved_is = was.saved } in
+    let begins = begun c.args.state.now c.args.moment was.after was.moment was.saved in
     let same = quiet-refused begins (g.D.Store.held c.args.store.now) c.args.command.now c.in_ok-refusal.field-0 c.come_to.new.state c.in_ok-refusal.ensures.comes c.in-Refused.refusal c.in-Refused.is in
     valid-again begins c.come_to.new.state same c.requires.sound
 
 pub returns-in_ok-refusal_reply-in-Refused-clause-sound : goal.returns-in_ok-refusal_reply-in-Refused-clause-sound
 returns-in_ok-refusal_reply-in-Refused-clause-sound g c =
     let was = c.in_ok-earlier.ensures in
-    let begins : Begins c.args.state.now c.args.moment c.begin.new.self c.in_ok-earlier.earlier.moment c.in_ok-earlier.earlier.saved = record { after = was.after; moment_is = was.moment; saved_is = was.saved } in
+    let begins = begun c.args.state.now c.args.moment was.after was.moment was.saved in
     let same = quiet-refused begins (g.D.Store.held c.args.store.now) c.args.command.now c.in_ok-refusal.field-0 c.come_to.new.state c.in_ok-refusal.ensures.comes c.in-Refused.refusal c.in-Refused.is in
     sound-again begins c.come_to.new.state c.revert.new.self same c.revert.ensures c.requires.sound
 
 pub returns-in_ok-refusal_reply-in-Refused-clause-step : goal.returns-in_ok-refusal_reply-in-Refused-clause-step
 returns-in_ok-refusal_reply-in-Refused-clause-step g c =
     let was = c.in_ok-earlier.ensures in
-    let begins : Begins c.args.state.now c.args.moment c.begin.new.self c.in_ok-earlier.earlier.moment c.in_ok-earlier.earlier.saved = record { after = was.after; moment_is = was.moment; saved_is = was.saved } in
+    let begins = begun c.args.state.now c.args.moment was.after was.moment was.saved in
     refused-in begins (g.D.Store.held c.args.store.now) c.args.command.now c.in_ok-refusal.field-0 c.come_to.new.state c.in_ok-refusal.ensures.comes (g.C.Keeper.kept c.args.keeper.now)
     c.in-Refused.refusal c.revert.new.self _ _ c.in-Refused.is c.revert.ensures c.in_ok-refusal.ensures.held c.in_ok-refusal_reply-in-Refused.ensures
 
 pub returns-in_ok-refusal_reply-in-Refused-clause-answered : goal.returns-in_ok-refusal_reply-in-Refused-clause-answered
 returns-in_ok-refusal_reply-in-Refused-clause-answered g c =
     let was = c.in_ok-earlier.ensures in
-    let begins : Begins c.args.state.now c.args.moment c.begin.new.self c.in_ok-earlier.earlier.moment c.in_ok-earlier.earlier.saved = record { after = was.after; moment_is = was.moment; saved_is = was.saved } in
+    let begins = begun c.args.state.now c.args.moment was.after was.moment was.saved in
     answered-in begins (g.D.Store.held c.args.store.now) c.args.command.now c.in_ok-refusal.field-0 c.come_to.new.state c.in_ok-refusal.ensures.comes
     c.in-Refused.refusal c.revert.new.self _ c.in-Refused.is c.revert.ensures c.in_ok-refusal.ensures.refused c.in_ok-refusal_reply-in-Refused.ensures
 
 pub returns-in-Told-clause-sound : goal.returns-in-Told-clause-sound
 returns-in-Told-clause-sound g c =
     let was = c.in_ok-earlier.ensures in
-    let begins : Begins c.args.state.now c.args.moment c.begin.new.self c.in_ok-earlier.earlier.moment c.in_ok-earlier.earlier.saved = record { after = was.after; moment_is = was.moment; saved_is = was.saved } in
+    let begins = begun c.args.state.now c.args.moment was.after was.moment was.saved in
     let same = quiet-told begins (g.D.Store.held c.args.store.now) c.args.command.now c.in_ok-refusal.field-0 c.come_to.new.state c.in_ok-refusal.ensures.comes c.in-Told.lines c.in-Told.is in
     sound-again begins c.come_to.new.state c.revert-in-Told.new.self same c.revert-in-Told.ensures c.requires.sound
 
 pub returns-in-Told-clause-step : goal.returns-in-Told-clause-step
 returns-in-Told-clause-step g c =
     let was = c.in_ok-earlier.ensures in
-    let begins : Begins c.args.state.now c.args.moment c.begin.new.self c.in_ok-earlier.earlier.moment c.in_ok-earlier.earlier.saved = record { after = was.after; moment_is = was.moment; saved_is = was.saved } in
+    let begins = begun c.args.state.now c.args.moment was.after was.moment was.saved in
     told-in begins (g.D.Store.held c.args.store.now) c.args.command.now c.in_ok-refusal.field-0 c.come_to.new.state c.in_ok-refusal.ensures.comes (g.C.Keeper.kept c.args.keeper.now)
     c.in-Told.lines c.revert-in-Told.new.self _ _ c.in-Told.is c.revert-in-Told.ensures c.in_ok-refusal.ensures.held c.reply_of.ensures c.requires.command c.requires.moment
 
 pub returns-in_ok-carry_out-in-Done-clause-step : goal.returns-in_ok-carry_out-in-Done-clause-step
 returns-in_ok-carry_out-in-Done-clause-step g c =
     let was = c.in_ok-earlier.ensures in
-    let begins : Begins c.args.state.now c.args.moment c.begin.new.self c.in_ok-earlier.earlier.moment c.in_ok-earlier.earlier.saved = record { after = was.after; moment_is = was.moment; saved_is = was.saved } in
+    let begins = begun c.args.state.now c.args.moment was.after was.moment was.saved in
     let handed = handed-in begins (g.D.Store.held c.args.store.now) c.args.command.now c.in_ok-refusal.field-0 c.come_to.new.state c.in_ok-refusal.ensures.comes
     c.in-Done.handed _ _ _ _ _ c.in-Done.is c.new-edits.ensures.items was.edits c.in_ok-refusal.ensures.edits c.from_vec.ensures c.in_ok-and_saved-in-Done.ensures in
     is-carried (g.D.Store.held c.args.store.now) _ c.args.command.now c.args.moment _ _ c.in-Done.handed.lines _ c.come_to.new.state _ _ _
@@ -65,7 +65,7 @@ returns-in_ok-carry_out-in-Done-clause-step g c =
 pub returns-in_err-carry_out-in-Done-clause-stopped : goal.returns-in_err-carry_out-in-Done-clause-stopped
 returns-in_err-carry_out-in-Done-clause-stopped g c =
     let was = c.in_ok-earlier.ensures in
-    let begins : Begins c.args.state.now c.args.moment c.begin.new.self c.in_ok-earlier.earlier.moment c.in_ok-earlier.earlier.saved = record { after = was.after; moment_is = was.moment; saved_is = was.saved } in
+    let begins = begun c.args.state.now c.args.moment was.after was.moment was.saved in
     let handed = handed-in begins (g.D.Store.held c.args.store.now) c.args.command.now c.in_ok-refusal.field-0 c.come_to.new.state c.in_ok-refusal.ensures.comes
     c.in-Done.handed _ _ _ _ _ c.in-Done.is c.new-edits.ensures.items was.edits c.in_ok-refusal.ensures.edits c.from_vec.ensures c.in_ok-and_saved-in-Done.ensures in
     is-halted (g.D.Store.held c.args.store.now) _ c.args.command.now c.args.moment _ _ _ c.in-Done.handed.lines _ c.come_to.new.state _ _
@@ -74,14 +74,14 @@ returns-in_err-carry_out-in-Done-clause-stopped g c =
 pub returns-in_ok-refusal_reply-in-Refused-clause-quiet : goal.returns-in_ok-refusal_reply-in-Refused-clause-quiet
 returns-in_ok-refusal_reply-in-Refused-clause-quiet g c = λ quiet.
     let was = c.in_ok-earlier.ensures in
-    let begins : Begins c.args.state.now c.args.moment c.begin.new.self c.in_ok-earlier.earlier.moment c.in_ok-earlier.earlier.saved = record { after = was.after; moment_is = was.moment; saved_is = was.saved } in
+    let begins = begun c.args.state.now c.args.moment was.after was.moment was.saved in
     let same = quiet-refused begins (g.D.Store.held c.args.store.now) c.args.command.now c.in_ok-refusal.field-0 c.come_to.new.state c.in_ok-refusal.ensures.comes c.in-Refused.refusal c.in-Refused.is in
     ((c.in_ok-refusal.ensures.held, refl), ap Some (back-again begins c.come_to.new.state c.revert.new.self same c.revert.ensures))
 
 pub returns-in-Told-clause-quiet : goal.returns-in-Told-clause-quiet
 returns-in-Told-clause-quiet g c = λ quiet.
     let was = c.in_ok-earlier.ensures in
-    let begins : Begins c.args.state.now c.args.moment c.begin.new.self c.in_ok-earlier.earlier.moment c.in_ok-earlier.earlier.saved = record { after = was.after; moment_is = was.moment; saved_is = was.saved } in
+    let begins = begun c.args.state.now c.args.moment was.after was.moment was.saved in
     let same = quiet-told begins (g.D.Store.held c.args.store.now) c.args.command.now c.in_ok-refusal.field-0 c.come_to.new.state c.in_ok-refusal.ensures.comes c.in-Told.lines c.in-Told.is in
     ((c.in_ok-refusal.ensures.held, refl), ap Some (back-again begins c.come_to.new.state c.revert-in-Told.new.self same c.revert-in-Told.ensures))
 
@@ -92,27 +92,32 @@ returns-in_ok-carry_out-in-Done-clause-quiet g c = λ quiet.
 pub returns-in_ok-refusal_reply-in-Refused-clause-comes : goal.returns-in_ok-refusal_reply-in-Refused-clause-comes
 returns-in_ok-refusal_reply-in-Refused-clause-comes g c =
     let was = c.in_ok-earlier.ensures in
-    let begins : Begins c.args.state.now c.args.moment c.begin.new.self c.in_ok-earlier.earlier.moment c.in_ok-earlier.earlier.saved = record { after = was.after; moment_is = was.moment; saved_is = was.saved } in
+    let begins = begun c.args.state.now c.args.moment was.after was.moment was.saved in
     let same = quiet-refused begins (g.D.Store.held c.args.store.now) c.args.command.now c.in_ok-refusal.field-0 c.come_to.new.state c.in_ok-refusal.ensures.comes c.in-Refused.refusal c.in-Refused.is in
     out-refused (g.D.Store.held c.args.store.now) (g.C.Keeper.kept c.args.keeper.now) (Some c.args.state.now) c.args.command.now c.args.moment _ c.in-Refused.refusal _ _ (ap Some (back-again begins c.come_to.new.state c.revert.new.self same c.revert.ensures))
     c.in_ok-refusal.ensures.held c.in_ok-refusal_reply-in-Refused.ensures (comes-refused begins (g.D.Store.held c.args.store.now) c.args.command.now c.in_ok-refusal.field-0 c.come_to.new.state c.in_ok-refusal.ensures.comes c.in-Refused.refusal c.in-Refused.is)
+    (λ alone objects. comes-refused begins (Some objects) c.args.command.now c.in_ok-refusal.field-0 c.come_to.new.state (c.in_ok-refusal.ensures.by_state alone (Some objects)) c.in-Refused.refusal c.in-Refused.is objects refl)
 
 pub returns-in-Told-clause-comes : goal.returns-in-Told-clause-comes
 returns-in-Told-clause-comes g c =
     let was = c.in_ok-earlier.ensures in
-    let begins : Begins c.args.state.now c.args.moment c.begin.new.self c.in_ok-earlier.earlier.moment c.in_ok-earlier.earlier.saved = record { after = was.after; moment_is = was.moment; saved_is = was.saved } in
+    let begins = begun c.args.state.now c.args.moment was.after was.moment was.saved in
     let same = quiet-told begins (g.D.Store.held c.args.store.now) c.args.command.now c.in_ok-refusal.field-0 c.come_to.new.state c.in_ok-refusal.ensures.comes c.in-Told.lines c.in-Told.is in
     out-told (g.D.Store.held c.args.store.now) (g.C.Keeper.kept c.args.keeper.now) (Some c.args.state.now) c.args.command.now c.args.moment _ c.in-Told.lines _ _ (ap Some (back-again begins c.come_to.new.state c.revert-in-Told.new.self same c.revert-in-Told.ensures))
     c.in_ok-refusal.ensures.held c.reply_of.ensures (comes-told begins (g.D.Store.held c.args.store.now) c.args.command.now c.in_ok-refusal.field-0 c.come_to.new.state c.in_ok-refusal.ensures.comes c.in-Told.lines c.in-Told.is)
+    (λ alone objects. comes-told begins (Some objects) c.args.command.now c.in_ok-refusal.field-0 c.come_to.new.state (c.in_ok-refusal.ensures.by_state alone (Some objects)) c.in-Told.lines c.in-Told.is objects refl)
 
 pub returns-in_ok-carry_out-in-Done-clause-comes : goal.returns-in_ok-carry_out-in-Done-clause-comes
 returns-in_ok-carry_out-in-Done-clause-comes g c =
     let was = c.in_ok-earlier.ensures in
-    let begins : Begins c.args.state.now c.args.moment c.begin.new.self c.in_ok-earlier.earlier.moment c.in_ok-earlier.earlier.saved = record { after = was.after; moment_is = was.moment; saved_is = was.saved } in
+    let begins = begun c.args.state.now c.args.moment was.after was.moment was.saved in
     let handed = handed-in begins (g.D.Store.held c.args.store.now) c.args.command.now c.in_ok-refusal.field-0 c.come_to.new.state c.in_ok-refusal.ensures.comes
     c.in-Done.handed _ _ _ _ _ c.in-Done.is c.new-edits.ensures.items was.edits c.in_ok-refusal.ensures.edits c.from_vec.ensures c.in_ok-and_saved-in-Done.ensures in
     out-done (g.D.Store.held c.args.store.now) _ (Some c.args.state.now) c.args.command.now c.args.moment _ c.in-Done.handed.lines _ c.come_to.new.state _ _ _
-    c.in_ok-refusal.ensures.held c.reply_of-in-Done.ensures handed c.in_ok-carry_out-in-Done.ensures.carried
+    c.in_ok-refusal.ensures.held c.reply_of-in-Done.ensures handed
+    (λ alone objects. handed-in begins (Some objects) c.args.command.now c.in_ok-refusal.field-0 c.come_to.new.state (c.in_ok-refusal.ensures.by_state alone (Some objects))
+    c.in-Done.handed _ _ _ _ _ c.in-Done.is c.new-edits.ensures.items was.edits c.in_ok-refusal.ensures.edits c.from_vec.ensures c.in_ok-and_saved-in-Done.ensures)
+    c.in_ok-carry_out-in-Done.ensures.carried
 
 pub returns-in_ok-refusal_reply-in-Refused-clause-flagged : goal.returns-in_ok-refusal_reply-in-Refused-clause-flagged
 returns-in_ok-refusal_reply-in-Refused-clause-flagged g c = refused-flagged _ c.in-Refused.refusal c.in_ok-refusal_reply-in-Refused.ensures
@@ -146,5 +151,5 @@ returns-in-Told-clause-ids g c = λ applied.
 pub returns-in_ok-carry_out-in-Done-clause-ids : goal.returns-in_ok-carry_out-in-Done-clause-ids
 returns-in_ok-carry_out-in-Done-clause-ids g c = λ applied.
     let was = c.in_ok-earlier.ensures in
-    let begins : Begins c.args.state.now c.args.moment c.begin.new.self c.in_ok-earlier.earlier.moment c.in_ok-earlier.earlier.saved = record { after = was.after; moment_is = was.moment; saved_is = was.saved } in
+    let begins = begun c.args.state.now c.args.moment was.after was.moment was.saved in
     ids-before begins c.in_ok-refusal.field-0 c.in-Done.handed c.in-Done.is c.in_ok-refusal.ensures.ids

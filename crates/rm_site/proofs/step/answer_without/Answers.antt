@@ -41,14 +41,17 @@ returns-in-Some-clause-comes g c =
     let refusal : refusal_without c.args.command.now ≡ Some c.in-Some.refusal = sym c.refusal_without.ensures ∙ c.in-Some.is in
     out-refused _ _ None c.args.command.now c.args.moment None c.in-Some.refusal _ _ refl refl c.in_ok-refusal_reply.ensures
     (λ objects told. comes-refused c.args.command.now c.args.moment c.in-Some.refusal refusal)
+    (λ alone objects. comes-refused c.args.command.now c.args.moment c.in-Some.refusal refusal)
 
 pub returns-clause-comes : goal.returns-clause-comes
 returns-clause-comes g c =
     let k = c.in-CreateDatabase in
     let was = c.in_ok-change.ensures in
-    let handed = founded c.args.command.now k.dbid k.threads k.scn c.args.moment k.is c.requires.command.0 (sym c.refusal_without.ensures ∙ c.in_default.is) c.requires.moment.last
-    (g.D.Store.held c.args.store.now) c.in_ok-change.change c.in_ok-state.state c.in_ok-lines.lines was.objects was.edits was.removes c.in_ok-state.ensures c.in_ok-lines.ensures in
-    out-done _ _ None c.args.command.now c.args.moment _ c.in_ok-lines.lines c.in_ok-change.change c.in_ok-state.state _ _ _ refl c.reply_of.ensures handed c.in_ok-carry_out.ensures.carried
+    let handed = founded c.args.command.now k.dbid k.threads k.scn c.args.moment k.is c.requires.command.0 (sym c.refusal_without.ensures ∙ c.in_default.is) c.requires.moment.last in
+    out-done _ _ None c.args.command.now c.args.moment _ c.in_ok-lines.lines c.in_ok-change.change c.in_ok-state.state _ _ _ refl c.reply_of.ensures
+    (handed (g.D.Store.held c.args.store.now) c.in_ok-change.change c.in_ok-state.state c.in_ok-lines.lines was.objects was.edits was.removes c.in_ok-state.ensures c.in_ok-lines.ensures)
+    (λ alone objects. handed (Some objects) c.in_ok-change.change c.in_ok-state.state c.in_ok-lines.lines was.objects was.edits was.removes c.in_ok-state.ensures c.in_ok-lines.ensures)
+    c.in_ok-carry_out.ensures.carried
 
 pub returns-in-Some-clause-flagged : goal.returns-in-Some-clause-flagged
 returns-in-Some-clause-flagged g c = refused-flagged _ c.in-Some.refusal c.in_ok-refusal_reply.ensures
