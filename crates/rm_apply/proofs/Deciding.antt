@@ -3,10 +3,10 @@ use Rattle.std.proofs.Common.{ℕ, List, Some, subst}
 use Rattle.rm_base.specs.Store.{Held}
 use Rattle.rm_catalog.specs.declared.record.Record.{Record}
 use Rattle.rm_evidence.specs.{Known.{known_of}, Database.{world_of}, declared.evidence.{Evidence.{Evidence}, InPlace.{InPlace}}}
+use Rattle.rm_evidence.proofs.Unique.{evidence_one}
 use Rattle.rm_history.{specs.FirstGap.{IsFirstGap}, proofs.Facts.{first-gap-open}}
 use Rattle.rm_plan.specs.declared.plan.Gap.{Gap}
 use Rattle.rm_apply.{specs.{Recover.{FindsGap, TellsAll}, declared.recovering.Recovered.{Recovered}}, proofs.Rows.{files-recoverable}}
-use Rattle.rm_apply.proofs.Unique.{evidence_one}
 
 -- where each block is told there is no gap
 pub not-both : (held : Held) (rs : List Record) (place : InPlace) (i s : ℕ) (r : Recovered) (x : Gap) → TellsAll (Some held) rs place i s r → ¬ FindsGap (Some held) rs place i s x

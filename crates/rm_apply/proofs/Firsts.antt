@@ -1,7 +1,7 @@
 -- The first fault of all datafiles: each block of the datafiles before it is determined.
-use Rattle.std.proofs.Common.{◌≡◌, ◌<◌, ◌++◌, ◌∷◌, [], inl, inr, ℕ, List, AllPairs, Option, Some, None, IfNone, IfSome, Contains, map, sym, subst, arith}
+use Rattle.std.proofs.Common.{◌≡◌, ◌<◌, ◌++◌, ◌∷◌, [], inl, inr, ℕ, List, Option, Some, None, IfNone, IfSome, Contains, map, sym, subst, arith}
 use Rattle.std.proofs.lemmas.List.Elements.{Contains-append_cases, Contains-append_right}
-use Rattle.rm_base.proofs.{Members.{first-or-rest, in-front}, Lists.{pairs-head, pairs-tail}}
+use Rattle.rm_base.proofs.{Members.{first-or-rest, in-front}, Lists.{pairs-behind, pairs-head}}
 use Rattle.rm_history.specs.{Evidence.{Evidence}, FirstGap.{IsFirstGap, IsRecoverable}, Unknown.{IsUnknown}, declared.world.World.{World}}
 use Rattle.rm_plan.specs.{FirstGap.{FilesBelow}, Plan.{IsFileFault, IsFileTarget}, declared.plan.{Gap.{Gap}, PlanFault.{PlanFault}}}
 use Rattle.rm_plan.proofs.Firsts.{first_of_all, gap_of_file}
@@ -9,18 +9,13 @@ use Rattle.rm_plan.specs.declared.plan.PlanFault.TheVariants as planned
 use Rattle.rm_apply.specs.{Applying.{ArePlanned, applied}, Files.{AreExactly}, Told.{IsFaultOfAll, IsGapOrNone}, declared.plans.Plan.{Plan}}
 use Rattle.rm_apply.proofs.Rows.{applied-numbers, applied-told, member-determined}
 
--- the numbers behind the first ones ascend too
-pairs-behind : (ms ns : List ℕ) → AllPairs (λ m n. m < n) (ms ++ ns) → AllPairs (λ m n. m < n) ns
-pairs-behind [] ns up = up
-pairs-behind (m ∷ ms) ns up = pairs-behind ms ns (pairs-tail (λ (a b : ℕ). a < b) m (ms ++ ns) up)
-
 -- in a list that ascends, a lower number than one of its own stands before that
 before : (ms rest : List ℕ) (W : ℕ → Type 0) (n f : ℕ) → AreExactly W (ms ++ n ∷ rest) → W f → f < n → Contains ms f
 before ms rest W n f are wanted less = elim (Contains-append_cases ms (n ∷ rest) f ((are.exact f).1 wanted)) [
   | inl front ↦ front
   | inr back ↦ elim (first-or-rest n rest f back) [
     | inl same ↦ absurd (omega (arith, less, same))
-    | inr late ↦ let up : n < f = pairs-head (λ (a b : ℕ). a < b) n rest f (pairs-behind ms (n ∷ rest) are.ascends) late in absurd (omega (arith, less, up))
+    | inr late ↦ let up : n < f = pairs-head (λ (a b : ℕ). a < b) n rest f (pairs-behind (λ (a b : ℕ). a < b) ms (n ∷ rest) are.ascends) late in absurd (omega (arith, less, up))
   ]
 ]
 

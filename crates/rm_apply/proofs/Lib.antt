@@ -1,12 +1,9 @@
 pub mod Agreeing
-pub mod Backups
 pub mod Deciding
 pub mod Firsts
 pub mod Numbers
-pub mod Parts
 pub mod Planning
 pub mod Restorations
 pub mod Rows
 pub mod States
 pub mod Taking
-pub mod Unique

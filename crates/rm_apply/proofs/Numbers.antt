@@ -1,7 +1,8 @@
 -- Numbers that are exactly those that are wanted, one after the other.
 use Rattle.std.proofs.Common.{◌≡◌, ◌<◌, ◌≤◌, ◌+◌, ◌∙◌, inl, inr, ℕ, zero, suc, List, [], ◌∷◌, ◌++◌, AllPairs, Option, None, Contains, get_or, length, map, take, ap, sym, subst, arith}
 use Rattle.std.proofs.lemmas.{Bool.{cases_lt}, List.{map-append, take_more, Elements.{Contains-get_or}, Quantifiers.{all_pairs_push}}}
-use Rattle.rm_base.proofs.{Lists.{at_end, front_or_end, in_front_part, pairs-head, pairs-tail}, Members.{behind, in-front}}
+use Rattle.rm_base.proofs.Lists.{at_end, few-between, front_or_end, in_front_part, pairs-head, pairs-tail}
+use Rattle.rm_base.proofs.Members.{behind, in-front}
 use Rattle.rm_catalog.specs.{Rules.{IsCatalog}, declared.record.Record.{Record}}
 use Rattle.rm_evidence.{specs.Database.{world_of}, proofs.Current.{file_number}}
 use Rattle.rm_history.specs.declared.world.World.{World}
@@ -71,18 +72,6 @@ module _ (w : World) (i s : ℕ) where
 -- none has a greater number than 64
 pub asked_below : (rs : List Record) (i s n : ℕ) (only : Option ℕ) → IsCatalog rs → 64 < n → (f : ℕ) → IsAsked (world_of rs) i s only f → f < n
 asked_below rs i s n only catalog past f wanted = let most = (file_number rs f wanted.0.datafile catalog wanted.0.is).1 in omega (arith, most, past)
-
--- items that ascend by numbers from `low` on, below low + n, are at most n
-pub few-between : {X : Type 0} (f : X → ℕ) (xs : List X) (low n : ℕ) → AllPairs (λ x y. f x < f y) xs → ((x : X) → Contains xs x → (low ≤ f x) × (f x < low + n)) → length xs ≤ n
-few-between f [] low n up each = omega arith
-few-between f (x ∷ xs) low zero up each = let first = each x (in-front x xs) in absurd (omega (arith, first.0, first.1))
-few-between f (x ∷ xs) low (suc n) up each =
-    let first = each x (in-front x xs) in
-    let rest = few-between f xs (low + 1) n (pairs-tail (λ x y. f x < f y) x xs up) (λ y has.
-    let more = pairs-head (λ x y. f x < f y) x xs y up has in
-    let most = (each y (behind x xs y has)).1 in
-    (omega (arith, more, first.0), omega (arith, most))) in
-    omega (arith, rest)
 
 -- datafiles of a catalog are at most 64
 pub few-targets : (rs : List Record) (i s : ℕ) (ns : List ℕ) → IsCatalog rs → AreExactly (IsFileTarget (world_of rs) i s) ns → length ns ≤ 64

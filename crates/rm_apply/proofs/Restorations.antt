@@ -7,8 +7,9 @@ use Rattle.rm_base.specs.{Numbers.{last_scn}, declared.{kinds.Kind.TheVariants.{
 use Rattle.rm_blocks.specs.File.{File, IsInOrder}
 use Rattle.rm_catalog.specs.{Facts.{IsCreatedOn}, Keys.{datafile, incarnation}, Rules.{HasDatabase, IsCatalog}}
 use Rattle.rm_catalog.specs.declared.record.{DatafileEntry.{DatafileEntry}, IncarnationEntry.{IncarnationEntry}, Record.{Record}}
+use Rattle.rm_catalog.proofs.{Datafiles.{datafile-rule, datafile-there}, Numbering.{incarnation-rule}}
 use Rattle.rm_evidence.specs.{Known.{FitsPiece, FitsTree}, Database.{created_by, world_of}, declared.evidence.Evidence.{Evidence}}
-use Rattle.rm_evidence.proofs.{Files.{file_of-is}, Found.{datafile-rule, datafile-there, incarnation-rule}, DatabaseWorlds.{is-sound}}
+use Rattle.rm_evidence.proofs.{Files.{file_of-is}, DatabaseWorlds.{is-sound}}
 use Rattle.rm_history.specs.{World.{file_of}, declared.{tree.Incarnation.{Incarnation}, world.{Datafile.{Datafile}, World.{World}}}}
 use Rattle.rm_piece.{specs.declared.piece.Piece.{Piece}, proofs.Whole.{placed}}
 use Rattle.rm_apply.specs.Restore.{AreRestored, IsBackupFor, IsRestoration, Restoration, file_by, origin_by, origin_of, restored}

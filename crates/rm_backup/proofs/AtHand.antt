@@ -5,11 +5,11 @@ use Rattle.std.proofs.lemmas.{Bool.{eqb-true, eq-eqb}, List.Elements.{All-contai
 use Rattle.std.proofs.lemmas.Option.{same_Some}
 use Rattle.rm_base.{specs.{Store.{Held}, declared.kinds.Kind.TheVariants.{Level1}}, proofs.Lists.{find_cases, find_none, map_from}}
 use Rattle.rm_catalog.specs.{Keys.{at, piece_in, place as place_of_id}, Rules.{IsCatalog}, declared.record.PieceEntry.{PieceEntry}}
-use Rattle.rm_catalog.{specs.declared.record.Record.{Record}, proofs.{ByKinds.{free-in}, Told.{some_is}}}
+use Rattle.rm_catalog.{specs.declared.record.Record.{Record}, proofs.{ByKinds.{free-in}, Told.{some_is}, Numbering.{at-is, obeys}}}
 use Rattle.rm_catalog.specs.declared.record.Record.TheVariants as records
 use Rattle.rm_evidence.specs.{Available.{HasPieceObject}, Database.{database_in, dbid_in}}
 use Rattle.rm_evidence.specs.{Gathered.{IsGathered, IsPieceAmong, placed, placed_piece}, Known.{FitsPiece}}
-use Rattle.rm_evidence.{specs.declared.evidence.{Evidence.{Evidence}, InPlace.{InPlace}}, proofs.Found.{at-is, obeys}}
+use Rattle.rm_evidence.specs.declared.evidence.{Evidence.{Evidence}, InPlace.{InPlace}}
 use Rattle.rm_history.specs.declared.tree.Incarnation.{Incarnation}
 use Rattle.rm_piece.{specs.declared.piece.Piece.{Piece}, proofs.Fitting.{spelling_same}}
 use Rattle.rm_backup.specs.Renewed.{copy_at}
@@ -33,13 +33,6 @@ same_piece : (rs : List Record) (p q : PieceEntry) → IsCatalog rs → Contains
 same_piece rs p q catalog has_p has_q same =
     let both = sym (at-is rs (records.Piece q) catalog has_q) ∙ ap (λ (n : ℕ). at (place_of_id 5 n) rs) same ∙ at-is rs (records.Piece p) catalog has_p in
     same_Some q p (ap (λ (o : Option Record). option_and_then piece_in o) both)
-
--- what stands in place has the id 0
-in_place : (xs : List Piece) (id : ℕ) (a : Piece) → 1 ≤ id → ¬ Contains (placed xs) (id, a)
-in_place xs id a some held =
-    let source = map_from (λ (b : Piece). (0, b)) xs (id, a) held in
-    let zero : 0 ≡ id = ap (λ (x : ℕ × Piece). x.0) source.is in
-    absurd (omega (arith, zero, some))
 
 module _ (held : Held) (rs : List Record) (place : InPlace) (e : Evidence) (p : PieceEntry) (a : Piece) (catalog : IsCatalog rs) (gathered : IsGathered held rs place e) (has : Contains rs (records.Piece p)) where
   some_id : 1 ≤ p.id
@@ -65,10 +58,7 @@ module _ (held : Held) (rs : List Record) (place : InPlace) (e : Evidence) (p : 
 
   -- a base of this id at hand is one of the store
   stored : (b : Piece) → Contains e.bases (p.id, b) → HasPieceObject held p b
-  stored b at_hand = elim (Contains-append_cases (placed (map (placed_piece (dbid_in rs)) place.files)) gathered.bases.rest (p.id, b) (subst (λ (xs : List (ℕ × Piece)). Contains xs (p.id, b)) gathered.bases.list at_hand)) [
-    | inl there ↦ absurd (in_place (map (placed_piece (dbid_in rs)) place.files) p.id b some_id there)
-    | inr rest ↦ own b ((gathered.bases.exact p.id b).0 rest).0
-  ]
+  stored b at_hand = own b (base-recorded held rs place e gathered p.id b some_id at_hand).0
 
   -- and it is the only one
   found_one : (b : Piece) → Contains e.bases (p.id, b) → copy_at e.bases p.id ≡ Some b
@@ -83,6 +73,5 @@ module _ (held : Held) (rs : List Record) (place : InPlace) (e : Evidence) (p : 
   pub copy_at_hand : p.kind ≢ Level1 → (copy_at e.bases p.id ≡ Some a) ↔ HasPieceObject held p a
   copy_at_hand kind = (
     λ is. stored a (copy_held e.bases p.id a is),
-    λ available. found_one a (subst (λ (xs : List (ℕ × Piece)). Contains xs (p.id, a)) (sym gathered.bases.list)
-        (Contains-append_right (placed (map (placed_piece (dbid_in rs)) place.files)) gathered.bases.rest (p.id, a) ((gathered.bases.exact p.id a).1 (inl (p, has, refl, available), λ level1. kind (sym available.object.fields.kind ∙ level1))))),
+    λ available. found_one a (base-gathered held rs place e gathered p.id a (inl (p, has, refl, available), λ level1. kind (sym available.object.fields.kind ∙ level1))),
   )

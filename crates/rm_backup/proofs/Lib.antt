@@ -2,3 +2,4 @@ pub mod AtHand
 pub mod Chained
 pub mod Choices
 pub mod Kept
+pub mod Merges

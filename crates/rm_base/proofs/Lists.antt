@@ -181,6 +181,11 @@ module _ {X : Type 0} (R : X → X → Type 0) where
   pub pairs-tail : (x : X) (xs : List X) → AllPairs R (x ∷ xs) → AllPairs R xs
   pairs-tail x xs all i j d less inside = all (suc i) (suc j) d (omega arith) (omega arith)
 
+  -- and of those behind some first ones
+  pub pairs-behind : (xs ys : List X) → AllPairs R (xs ++ ys) → AllPairs R ys
+  pairs-behind [] ys all = all
+  pairs-behind (x ∷ xs) ys all = pairs-behind xs ys (pairs-tail x (xs ++ ys) all)
+
   -- what holds in both lists, and of each of the first with each of the second, holds of all pairs
   pub pairs-append : (xs ys : List X) → AllPairs R xs → AllPairs R ys → ((x y : X) → Contains xs x → Contains ys y → R x y) → AllPairs R (xs ++ ys)
   pairs-append [] ys first second cross = second
@@ -190,3 +195,15 @@ module _ {X : Type 0} (R : X → X → Type 0) where
         | inr there ↦ cross x _ (in-front x xs) there
       ])
       (pairs-append xs ys (pairs-tail x xs first) second (λ y z here there. cross y z (behind x xs y here) there))
+
+-- items that ascend by numbers from `low` on, below low + n, are at most n
+pub few-between : {X : Type 0} (f : X → ℕ) (xs : List X) (low n : ℕ) → AllPairs (λ x y. f x < f y) xs → ((x : X) → Contains xs x → (low ≤ f x) × (f x < low + n)) → length xs ≤ n
+few-between f [] low n up each = omega arith
+few-between f (x ∷ xs) low zero up each = let first = each x (in-front x xs) in absurd (omega (arith, first.0, first.1))
+few-between f (x ∷ xs) low (suc n) up each =
+    let first = each x (in-front x xs) in
+    let rest = few-between f xs (low + 1) n (pairs-tail (λ x y. f x < f y) x xs up) (λ y has.
+    let more = pairs-head (λ x y. f x < f y) x xs y up has in
+    let most = (each y (behind x xs y has)).1 in
+    (omega (arith, more, first.0), omega (arith, most))) in
+    omega (arith, rest)

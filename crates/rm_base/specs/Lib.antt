@@ -1,3 +1,4 @@
+pub mod BlockOrder
 pub mod Choice
 pub mod Content
 pub mod Created

@@ -1,7 +1,6 @@
 pub mod Wide
 pub mod Bodies
 pub mod Told
-pub mod Fronts
 pub mod Endings
 pub mod Pieces
 pub mod SetTold

@@ -1,9 +1,9 @@
 -- A piece with its ending.
 use Rattle.std.proofs.{Common.{◌≡◌, ◌∙◌, ◌+◌, ◌≤◌, List, ℕ, [], ◌++◌, length, refl, sym, ap, arith}, lemmas.List.{length-append}}
-use Rattle.rm_base.proofs.Wide.{fronts_same}
+use Rattle.rm_base.proofs.{Wide.{fronts_same}, Fronts.{whole}}
 use Rattle.rm_catalog.specs.declared.record.PieceEntry.{PieceEntry}
 use Rattle.rm_catalog_bytes.specs.{Fits.{PieceFits}, Spelling.{flag, kind_code, piece_head, piece_ending, piece_bytes, ending_bytes}}
-use Rattle.rm_catalog_bytes.{specs.declared.ending.Ending.{Ending}, proofs.{Bodies.{piece_fields}, Endings.{ending_same}, Fronts.{whole}}}
+use Rattle.rm_catalog_bytes.{specs.declared.ending.Ending.{Ending}, proofs.{Bodies.{piece_fields}, Endings.{ending_same}}}
 use Rattle.rm_catalog_bytes.proofs.Told.{piece_told, length-piece, flag_same, kind_same}
 
 pub front_told : (r : PieceEntry) (bytes front rest : List ℕ) → length front ≡ 38 → bytes ≡ front ++ rest → bytes ≡ piece_bytes r → (front ≡ piece_head r) × (rest ≡ ending_bytes (piece_ending r))

@@ -11,6 +11,8 @@ use Rattle.rm_catalog.specs.declared.record.{BaseEntry.{BaseEntry}, Edit.{Edit, 
 use Rattle.rm_catalog.specs.declared.record.{LogEntry.{LogEntry}, PartEntry.{PartEntry}, PieceEntry.{PieceEntry}, Record.{Record}}
 use Rattle.rm_catalog.specs.declared.record.SetEntry.{SetEntry}
 use Rattle.rm_catalog.proofs.Filters.{above_all, above_append, above_none, after_both, below_none}
+use Rattle.rm_catalog.proofs.PartEdits.{IsPart, more_part, part_then, put_part}
+use Rattle.rm_catalog.proofs.Running.{Runs, runs-append, runs-lower, runs-objects, runs-within}
 use Rattle.rm_catalog.specs.declared.record.Record.TheVariants as kind
 use Rattle.rm_catalog_typed.specs.Ledger.{incarnation_record, datafile_record, mark_record, switch_record}
 use Rattle.rm_catalog_typed.specs.Changes.{EditsFollow, higher, lower, with_base, with_end_at, with_file, with_incarnation, with_log, with_mark, with_new_log, with_new_piece, with_new_set, with_one, with_piece, with_set, with_switch, without_log, without_one, without_piece, without_set, part_drop, saved_edits, unsaved_edits, with_saved, without_saved}
@@ -18,8 +20,8 @@ use Rattle.rm_catalog_typed.specs.Facts.{IsTypedCatalog, IsSaved}
 use Rattle.rm_catalog_typed.specs.Fitting.{FitsBranch, FitsFile, FitsLog, FitsMark, FitsNewLog, FitsNewPiece, FitsNewSet, FitsPiece, FitsSet, FitsSwitch}
 use Rattle.rm_catalog_typed.specs.TypedCatalog.{TypedCatalog, Saved, records_of, saved_records}
 use Rattle.rm_catalog_typed.specs.declared.thread_switch.ThreadSwitch.{ThreadSwitch}
-use Rattle.rm_catalog_typed.proofs.Order.{Runs, incarnations_of, datafiles_of, logs_of, pieces_of, marks_of, sets_of, switch_records, incarnations-run, datafiles-run, logs-run, pieces-run, marks-run, sets-run, switches-run, marks-few, switches-few, runs-append, runs-lower, runs-objects, runs-within}
-use Rattle.rm_catalog_typed.proofs.{Parts.{IsPart, more_part, part_then, put_part}, Sections.{numbered_part, replaced}}
+use Rattle.rm_catalog_typed.proofs.Order.{incarnations_of, datafiles_of, logs_of, pieces_of, marks_of, sets_of, switch_records, incarnations-run, datafiles-run, logs-run, pieces-run, marks-run, sets-run, switches-run, marks-few, switches-few}
+use Rattle.rm_catalog_typed.proofs.Sections.{numbered_part, replaced}
 use Rattle.rm_catalog_typed.proofs.Fitted.{branch_fits, drawn-log, drawn-piece, drawn-set, end_fits, file_fits, log-last, log_fits, mark_fits, next_fits, no_log_fits, no_piece_fits, no_set_fits, piece-last, piece_fits, set-last, set_fits, switch_fits, with_next}
 
 -- a part without edits

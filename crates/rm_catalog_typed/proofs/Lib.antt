@@ -1,8 +1,12 @@
 pub mod ByKind
 pub mod Changed
 pub mod Counted
+pub mod Current
+pub mod Deleting
+pub mod Enabled
 pub mod Fitted
 pub mod Fresh
+pub mod Ids
 pub mod InTurn
 pub mod Keeping
 pub mod LedgerObjects
@@ -15,12 +19,12 @@ pub mod Marks
 pub mod Members
 pub mod Ones
 pub mod Order
-pub mod Parts
 pub mod Paths
 pub mod Recorded
 pub mod Records
 pub mod Saves
 pub mod Sections
+pub mod Sizes
 pub mod Splits
 pub mod Takes
 pub mod Things

@@ -6,9 +6,8 @@ use Rattle.std.proofs.lemmas.List.{Elements.{All-map, All-nil, All-push, Contain
 use Rattle.rm_base.proofs.{Lists.{filter_from, filter_all, filter_none}, Members.{none-in}}
 use Rattle.rm_catalog.specs.{Keys.{base, base_in, head_in, part_in, place_of, set_in, switch_in}, Rules.{IsCatalog, is_lasting}}
 use Rattle.rm_catalog.specs.declared.record.{BaseEntry.{BaseEntry}, HeadEntry.{HeadEntry}, PartEntry.{PartEntry}, Record.{Record}}
-use Rattle.rm_catalog.proofs.{ByKinds.{lasting-place}, Numbering.{rises_catalog}, Unique.{Rises, all_above}, Telling.{record-told}}
+use Rattle.rm_catalog.proofs.{ByKinds.{lasting-place}, Numbering.{rises_catalog, obeys}, Unique.{Rises, all_above}, Telling.{record-told}}
 use Rattle.rm_catalog.specs.declared.record.Record.TheVariants as records
-use Rattle.rm_evidence.proofs.Found.{obeys}
 use Rattle.rm_catalog_typed.specs.LedgerFacts.{IsLedger}
 use Rattle.rm_catalog_typed.specs.Ledger.{Ledger, back_records, front_records, ledger_records, numbered, switch_record}
 use Rattle.rm_catalog_typed.specs.Kinds.{AreSmall, by_kind, ledger_in, saved_in, switched_by, typed_catalog_in}

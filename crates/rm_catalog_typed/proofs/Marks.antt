@@ -4,11 +4,10 @@ use Rattle.std.proofs.Common.{◌≡◌, ◌∙◌, ℕ, ◌+◌, ◌-◌, ◌<�
 use Rattle.std.proofs.lemmas.List.{get_or_default, Elements.{All-contains, Contains-get_or}, Sorted.{IsNonDecreasingBy-from_all_adjacent}}
 use Rattle.rm_catalog.specs.{Keys.{place, place_of, at, mark_in}, Facts.{MarkRule}, Rules.{IsCatalog}}
 use Rattle.rm_catalog.{specs.declared.record.{MarkEntry.{MarkEntry}, Record.{Record}}, proofs.Told.{found_is}}
-use Rattle.rm_catalog.proofs.Telling.{record-told, HasNoGap, numbers-are}
+use Rattle.rm_catalog.proofs.{Telling.{record-told, HasNoGap, numbers-are}, Numbering.{obeys}}
 use Rattle.rm_catalog.specs.declared.record.Record.TheVariants as records
 use Rattle.rm_catalog_typed.specs.{Ledger.{numbered, mark_record}, Kinds.{AreSmall, IsSmall, marked_by}}
 use Rattle.rm_catalog_typed.proofs.ByKind.{is-mark, made, numbered-by, told-in-order, told-is}
-use Rattle.rm_evidence.proofs.Found.{obeys}
 
 -- what the marks among the records say, in order
 abbrev pub entries : List Record → List MarkEntry

@@ -2,11 +2,11 @@
 use Rattle.std.proofs.Common.{◌<◌, ◌≤◌, ◌++◌, ◌⊎◌, inl, inr, arith, Contains}
 use Rattle.std.proofs.lemmas.List.Elements.{All-contains, Contains-append_cases, Contains-append_left, Contains-append_right}
 use Rattle.rm_catalog.specs.{Keys.{place, place_of}, declared.record.{LogEntry.{LogEntry}, PieceEntry.{PieceEntry}, Record.{Record}}}
-use Rattle.rm_catalog.specs.declared.record.SetEntry.{SetEntry}
+use Rattle.rm_catalog.{specs.declared.record.SetEntry.{SetEntry}, proofs.Running.{runs-within}}
 use Rattle.rm_catalog.specs.declared.record.Record.TheVariants as kind
 use Rattle.rm_catalog_typed.specs.{Ledger.{back_records, front_records, ledger_records}, Facts.{IsTypedCatalog}}
 use Rattle.rm_catalog_typed.{specs.TypedCatalog.{TypedCatalog, records_of, saved_records}, proofs.Lookups.{own-has, record-own}}
-use Rattle.rm_catalog_typed.proofs.{Order.{runs-within}, Changed.{saved-run}}
+use Rattle.rm_catalog_typed.proofs.Changed.{saved-run}
 
 -- a record is one of the ledger, or of the saved site
 pub either-of : (r : TypedCatalog) (x : Record) → Contains (records_of r) x → Contains (ledger_records r.ledger) x ⊎ Contains (saved_records r.saved) x

@@ -3,9 +3,9 @@ use Rattle.std.specs.Prelude.{slice_set}
 use Rattle.std.proofs.Common.{◌≡◌, ◌∙◌, ℕ, zero, suc, ◌+◌, ◌<◌, ◌≤◌, List, [], ◌∷◌, ◌++◌, length, map, refl, ap, sym, subst, arith, All}
 use Rattle.std.proofs.lemmas.List.{length-append}
 use Rattle.rm_catalog.specs.{Keys.{place, place_of}, Edits.{after_edit}, declared.record.{Record.{Record}, Edit.TheVariants.{Put}}}
+use Rattle.rm_catalog.proofs.{PartEdits.{IsPart, after_first, after_rest, more_part}, Running.{Runs, runs-within}}
 use Rattle.rm_history.specs.declared.tree.Incarnation.{Incarnation}
-use Rattle.rm_catalog_typed.{specs.Ledger.{numbered, incarnation_record}, proofs.Order.{Runs, runs-numbered, runs-within}}
-use Rattle.rm_catalog_typed.proofs.Parts.{IsPart, after_first, after_rest, more_part}
+use Rattle.rm_catalog_typed.{specs.Ledger.{numbered, incarnation_record}, proofs.Order.{runs-numbered}}
 
 numbered_append : {A : Type 0} (make : ℕ → A → Record) (k : ℕ) (xs ys : List A) → numbered make k (xs ++ ys) ≡ numbered make k xs ++ numbered make (k + length xs) ys
 numbered_append make k [] ys = ap (λ (n : ℕ). numbered make n ys) (omega arith)

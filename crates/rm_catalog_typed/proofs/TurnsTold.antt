@@ -5,9 +5,8 @@ use Rattle.std.proofs.lemmas.List.Elements.{All-contains}
 use Rattle.rm_base.proofs.Lists.{map_from}
 use Rattle.rm_catalog.specs.{Keys.{base, switch_in}, Rules.{IsCatalog}, Switches.{IsAt}, Trees.{nodes}}
 use Rattle.rm_catalog.specs.declared.record.{BaseEntry.{BaseEntry}, Record.{Record}, SwitchEntry.{SwitchEntry}}
-use Rattle.rm_catalog.proofs.{Switching.{switch-rule}, SwitchNumbers.{switch-number}, Trees.{path_is}}
+use Rattle.rm_catalog.proofs.{Switching.{switch-rule}, SwitchNumbers.{switch-number}, Trees.{path_is}, Numbering.{at-is}}
 use Rattle.rm_catalog.specs.declared.record.Record.TheVariants as records
-use Rattle.rm_evidence.proofs.Found.{at-is}
 use Rattle.rm_catalog_typed.specs.{Kinds.{AreSmall, IsSmall, switched_by}, Ledger.{numbered, switch_record}, Switches.{ComeInTurn}}
 use Rattle.rm_catalog_typed.{specs.declared.thread_switch.ThreadSwitch.{ThreadSwitch}, proofs.ByKind.{is-switch, made, numbered-by}}
 use Rattle.rm_catalog_typed.proofs.{Lookups.{in-numbered, switch_entry}, Told.{on-incarnation}, Turns.{Tells, next-from}}

@@ -14,6 +14,7 @@ use Rattle.rm_catalog.specs.{Switches.{IsAt, SwitchRule}, declared.record.Datafi
 use Rattle.rm_catalog.specs.declared.record.{IncarnationEntry.{IncarnationEntry}, LogEntry.{LogEntry}, PartEntry.{PartEntry}}
 use Rattle.rm_catalog.specs.declared.record.{PieceEntry.{PieceEntry}, Record.{Record}, SetEntry.{SetEntry}, SetPart.{SetPart}}
 use Rattle.rm_catalog.proofs.{Counts.{alike_count}, ByKinds.{all-free, free-in, lasting-place, own-free}, Told.{at_here, at_past}}
+use Rattle.rm_catalog.proofs.Running.{Runs, rises-found, rises-order, runs-append, runs-join, runs-rise, runs-within}
 use Rattle.rm_catalog.specs.declared.record.Record.TheVariants as kind
 use Rattle.rm_base.proofs.{Members.{in-front, none-in}, Lists.{map_from, filter_none}}
 use Rattle.rm_catalog_typed.specs.Ledger.{back_records, front_records, ledger_records}
@@ -21,10 +22,9 @@ use Rattle.rm_catalog_typed.specs.Facts.{AreApart, IsPartEntry, IsTypedCatalog, 
 use Rattle.rm_catalog_typed.specs.TypedCatalog.{TypedCatalog, Saved, records_of, saved_records}
 use Rattle.rm_catalog_typed.{specs.declared.thread_switch.ThreadSwitch.{ThreadSwitch}, proofs.Counted.{rises-once, sum-none-map}}
 use Rattle.rm_catalog_typed.proofs.Lookups.{apart-from-site, datafile-at, incarnation-there, item-at, log-id-within, no-log, no-piece, no-set, no-switch, piece-id-within, record-own, set-id-within, switch-at, switch_entry}
-use Rattle.rm_catalog_typed.proofs.Order.{Runs, back-run, front-run, rises-found, rises-order, runs-append, runs-join, runs-rise, runs-within}
-use Rattle.rm_catalog_typed.proofs.{LedgerValid.{ledger-valid}, ByKind.{is-part, placed}, Changed.{saved-run}, LedgerThings.{switch-rule}}
-use Rattle.rm_catalog_typed.proofs.{Members.{either-of, ledger-has, log-in, piece-in, set-in, site-has}, Paths.{path-is}}
-use Rattle.rm_catalog_typed.proofs.Turns.{Tells, rule-from}
+use Rattle.rm_catalog_typed.proofs.{Order.{back-run, front-run}, LedgerValid.{ledger-valid}, ByKind.{is-part, placed}, Changed.{saved-run}}
+use Rattle.rm_catalog_typed.proofs.{LedgerThings.{switch-rule}, Members.{either-of, ledger-has, log-in, piece-in, set-in, site-has}}
+use Rattle.rm_catalog_typed.proofs.{Paths.{path-is}, Turns.{Tells, rule-from}}
 
 -- records at other places may stand in front, and among others
 at-behind : (p : ℕ) (ys zs : List Record) → All (λ x. place_of x ≢ p) ys → at p (ys ++ zs) ≡ at p zs

@@ -4,9 +4,9 @@ use Rattle.std.proofs.Common.{◌≡◌, ◌∙◌, ◌<◌, ◌≤◌, List, []
 use Rattle.std.proofs.lemmas.Option.{slice_get_within, get_or_from_slice_get}
 use Rattle.rm_catalog.specs.{Keys.{base, base_in}, Rules.{HasDatabase, IsCatalog}, Trees.{as_tree, nodes}}
 use Rattle.rm_catalog.{specs.declared.record.{BaseEntry.{BaseEntry}, Record.{Record}}, proofs.{Trees.{some_node}, Telling.{record-told}}}
+use Rattle.rm_catalog.proofs.Numbering.{at-is, obeys}
 use Rattle.rm_catalog.specs.declared.record.Record.TheVariants as records
 use Rattle.rm_history.specs.declared.tree.Incarnation.{Incarnation}
-use Rattle.rm_evidence.proofs.Found.{at-is, obeys}
 use Rattle.rm_base.proofs.Members.{in-front, none-in}
 use Rattle.rm_catalog_typed.specs.{Facts.{IsTypedCatalog}, Kinds.{AreSmall, Told, told_by}, Loading.{gathered}, TypedCatalog.{records_of}}
 use Rattle.rm_catalog_typed.proofs.{ByKind.{is-base, made, placed}, Loads.{records-are}, Saves.{typed_catalog-is}}

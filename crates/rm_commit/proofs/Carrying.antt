@@ -1,10 +1,10 @@
 -- What the calls of a change leave, one after another.
 use Rattle.std.{specs.{Prelude.{OnErr}, Option.{option_map}}, proofs.Common.{◌≡◌, List, Option, Result, Ok, Err}}
-use Rattle.rm_base.specs.Store.{Held, Both}
+use Rattle.rm_base.{specs.Store.{Held, Both}, proofs.Both.{both-then}}
 use Rattle.rm_catalog.specs.{Edits.{after_edits}, declared.record.Record.{Record}}
 use Rattle.rm_commit.specs.Names.{HasPuts, SameBeyondPuts, HasRemoves, SameBeyondRemoves}
 use Rattle.rm_commit.specs.Carrying.{AreMoved, ArePut, Carried, Halted, PutsFront, before_the_edits, after_the_edits}
-use Rattle.rm_commit.{specs.declared.commit.Commit.{Commit}, proofs.Told.{both-then}}
+use Rattle.rm_commit.specs.declared.commit.Commit.{Commit}
 
 pub on-err : {T E : Type 0} (P : Type 0) (r : Result T E) → P → OnErr r P
 on-err P (Ok x) p = tt

@@ -2,4 +2,3 @@ mod Carrying
 pub mod Fronts
 pub mod Named
 pub mod Standing
-pub mod Told

@@ -2,8 +2,8 @@
 use Rattle.std.specs.Str.{bytes_eq}
 use Rattle.std.proofs.Common.{◌≡◌, ◌≢◌, ℕ, zero, suc, ◌+◌, ◌<◌, ◌||◌, Bool, true, false, cond, List, [], ◌∷◌, length, get_or, drop, Option, refl, ap, sym, ◌∙◌, add-one, drop-cons, ◌⊎◌, inl, inr}
 use Rattle.std.proofs.lemmas.Slice.Eq.{bytes_eq-Decides}
-use Rattle.rm_base.specs.Store.{Held, Both, HasNow, SameBut}
-use Rattle.rm_commit.{specs.Names.{after_all, is_named, SameBeyond}, proofs.Told.{both-then, both-map, both-two}}
+use Rattle.rm_base.{specs.Store.{Held, Both, HasNow, SameBut}, proofs.Both.{both-then, both-map, both-two}}
+use Rattle.rm_commit.specs.Names.{after_all, is_named, SameBeyond}
 
 -- what is left to do leads from what stands now to what stands after all
 abbrev pub Ahead : {X : Type 0} → (X → List ℕ) → (X → Option (List ℕ)) → List X → List X → Held → Held → Type 0

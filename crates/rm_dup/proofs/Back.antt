@@ -4,16 +4,16 @@ use Rattle.std.proofs.Common.{◌≡◌, ◌↔◌, ◌<◌, ◌≤◌, ◌+◌,
 use Rattle.std.proofs.lemmas.List.Elements.{All-contains}
 use Rattle.std.proofs.lemmas.Option.{get_or_from_slice_get, none-some, same_Some, slice_get-get_or, slice_get-map, slice_get_within}
 use Rattle.rm_base.specs.{Content.{zero_block}, declared.block.{Block.{Block}, Change.{Change}, Row.{Row}}}
-use Rattle.rm_base.proofs.Lists.{map_from, map_to}
+use Rattle.rm_base.proofs.{Lists.{map_from, map_to}, Tests.{exists_from}, Numbered.{numbered-at, numbered-of}}
 use Rattle.rm_blocks.specs.File.{File}
 use Rattle.rm_history.specs.{Artefacts.{Base, Level1, Log}, Evidence.{Agrees, Evidence}, FirstGap.{IsRecoverable, IsTarget}}
 use Rattle.rm_history.specs.{History.{IsHistory}, Known.{HasRow, in_base, in_level1, Seen, by_row, by_log, by_creation, Quiet, Determined}}
 use Rattle.rm_history.specs.{State.{state, states}, Tree.{owner}, World.{blocks_of, creation_of, file_of}}
 use Rattle.rm_history.{specs.declared.world.{Datafile.{Datafile}, World.{World}}, proofs.States.{concerns-parts, state-held}}
 use Rattle.rm_history.proofs.Worlds.{file-there}
-use Rattle.rm_plan.{specs.Plan.{IsFileTarget}, proofs.Conditions.{exists_from}}
+use Rattle.rm_plan.specs.Plan.{IsFileTarget}
 use Rattle.rm_apply.{specs.Told.{AreFilesAt, IsTold}, proofs.States.{row-is, rows-are}}
-use Rattle.rm_dup.{specs.Copies.{as_first, duplicated, made_as}, proofs.Numbered.{numbered-at, numbered-of}}
+use Rattle.rm_dup.specs.Copies.{as_first, duplicated, made_as}
 
 -- the copy of a datafile of this number, as evidence
 abbrev pub base_as : ℕ → ℕ × File → Base

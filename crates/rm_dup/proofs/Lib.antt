@@ -2,7 +2,6 @@ pub mod Back
 pub mod Blocks
 mod Gathered
 mod Made
-mod Numbered
 mod Recovery
 pub mod Source
 mod Valid

@@ -3,14 +3,15 @@ use Rattle.std.specs.{Prelude.{◌&&◌, nat_lt}, List.{enumerate_from}, Option.
 use Rattle.std.proofs.Common.{◌≡◌, ◌==◌, ◌<◌, ◌+◌, ◌-◌, ◌∙◌, ℕ, true, List, [], ◌∷◌, Some, map, slice_get, Contains, sym, ap, subst, arith}
 use Rattle.std.proofs.lemmas.{Bool.Decides.{nat_tests}, Option.{same_Some, slice_get-map}}
 use Rattle.rm_base.{specs.declared.block.Change.{Change}, proofs.Lists.{map_from, map_to}}
+use Rattle.rm_base.proofs.{Numbered.{numbered-at, numbered-of, numbers-ascend}, OneOrder.{one-order}}
 use Rattle.rm_blocks.specs.File.{File}
 use Rattle.rm_evidence.proofs.{Extending.{pairs-mapped, unmapped-pairs}, Parts.{file-at}}
 use Rattle.rm_history.specs.{Evidence.{Agrees, Evidence}, History.{IsHistory}, Tree.{owner}, World.{creation_of}}
 use Rattle.rm_history.{specs.declared.world.World.{World}, proofs.Owners.{owner-first}}
 use Rattle.rm_plan.specs.Plan.{IsFileTarget}
-use Rattle.rm_apply.{specs.Told.{AreFilesAt}, proofs.Unique.{same_members}}
+use Rattle.rm_apply.specs.Told.{AreFilesAt}
 use Rattle.rm_dup.specs.Copies.{as_first, duplicated, first_until, made_as, made_of}
-use Rattle.rm_dup.proofs.{Back.{AreCopies, all-solid, mapped, true-to-source}, Numbered.{numbered-at, numbered-of, numbers-ascend}}
+use Rattle.rm_dup.proofs.Back.{AreCopies, all-solid, mapped, true-to-source}
 
 exists-at : (creation s owned inc : ℕ) → creation < s → owned ≡ inc → (nat_lt creation s && (owned == inc)) ≡ true
 exists-at creation s owned inc below is = grind (arith, nat_tests)
@@ -64,5 +65,5 @@ module _ (w : World) (e copies : Evidence) (i s : ℕ) (files : List File) (at :
 
   pub back-is : back ≡ made_of w h i s numbers
   back-is =
-      same_members Before (λ x y less more. omega (arith, less, more)) back (made_of w h i s numbers) (unmapped-pairs (λ (m n : ℕ). m < n) (λ (x : File). x.file) back there.numbers.ascends)
-      (pairs-mapped (made_as w h i s) (λ (p q : ℕ × ℕ). p.0 < q.0) Before (λ p q less. less) (enumerate_from 1 numbers) (numbers-ascend 1 numbers)) to-made from-made
+      one-order Before (λ x y less more. omega (arith, less, more)) back (made_of w h i s numbers) (unmapped-pairs (λ (m n : ℕ). m < n) (λ (x : File). x.file) back there.numbers.ascends)
+      (pairs-mapped (made_as w h i s) (λ (p q : ℕ × ℕ). p.0 < q.0) Before (λ p q less. less) (enumerate_from 1 numbers) (numbers-ascend 1 numbers)) (λ x. (to-made x, from-made x))

@@ -4,7 +4,7 @@ use Rattle.std.proofs.Common.{◌≡◌, ◌<◌, ◌≤◌, ◌+◌, ◌-◌, �
 use Rattle.std.proofs.lemmas.List.{length-map, Elements.{All-contains, All-map, All-nil, Contains-get_or}, FromFn.{length-enumerate_from}}
 use Rattle.std.proofs.lemmas.Option.{slice_get-get_or, slice_get-map, slice_get_within}
 use Rattle.rm_base.{specs.{Numbers.{last_scn}, declared.block.Row.{Row}}, proofs.{Lists.{map_to}, Members.{none-in}}}
-use Rattle.rm_base.proofs.{Sealing.{length-sealed}, Slots.{all-get}}
+use Rattle.rm_base.proofs.{Sealing.{length-sealed}, Slots.{all-get}, Numbered.{all-numbered, numbers-ascend}}
 use Rattle.rm_blocks.specs.File.{File}
 use Rattle.rm_catalog.specs.{Rules.{HasDatabase, IsCatalog}, Trees.{nodes}, declared.record.{LogEntry.{LogEntry}, PieceEntry.{PieceEntry}}}
 use Rattle.rm_catalog.specs.declared.record.{Record.{Record}, SetEntry.{SetEntry}}
@@ -22,8 +22,7 @@ use Rattle.rm_piece.proofs.Fitting.{fits as piece-fits}
 use Rattle.rm_plan.specs.Plan.{IsFileTarget}
 use Rattle.rm_apply.{specs.{Recover.{outside}, Told.{AreFilesAt, IsTold}}, proofs.Numbers.{few-targets}}
 use Rattle.rm_dup.specs.{Copies.{as_first, copies_of, copy_as, first_until}, Entries.{catalog_of, entry_of, ledger_of, moment_in}}
-use Rattle.rm_dup.proofs.{Back.{IsSolid, member, solid}, Blocks.{few-blocks}, Numbered.{all-numbered, numbers-ascend}}
-use Rattle.rm_dup.proofs.Source.{facts, within}
+use Rattle.rm_dup.proofs.{Back.{IsSolid, member, solid}, Blocks.{few-blocks}, Source.{facts, within}}
 
 -- what is true of the copy of each datafile is true of all copies
 pub all-copies : (P : Piece → Type 0) (dbid s : ℕ) (xs : List File) → ((k : ℕ) (x : File) → slice_get xs k ≡ Some x → P (copy_as dbid s (1 + k, x))) → All P (copies_of dbid s xs)

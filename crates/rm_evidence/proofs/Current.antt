@@ -5,13 +5,14 @@ use Rattle.std.proofs.lemmas.{Bool.{false≢true, ne_eqb}, Option.{same_Some}}
 use Rattle.rm_catalog.specs.{Facts.{BaseRule}, Keys.{incarnation, place, place_of, at, base, base_in, datafile, incarnation_in}}
 use Rattle.rm_catalog.specs.{Rules.{IsCatalog, HasDatabase}, Trees.{nodes, node}, declared.record.BaseEntry.{BaseEntry}}
 use Rattle.rm_catalog.specs.declared.record.{DatafileEntry.{DatafileEntry}, IncarnationEntry.{IncarnationEntry}, Record.{Record}}
-use Rattle.rm_catalog.proofs.{Numbering.{number_there}, Told.{found_is}, Trees.{length_nodes, node_at}}
+use Rattle.rm_catalog.proofs.{Numbering.{number_there, obeys, incarnation-rule}, Told.{found_is}, Trees.{length_nodes, node_at}}
+use Rattle.rm_catalog.proofs.Datafiles.{datafile-rule, datafile-there}
 use Rattle.rm_catalog.specs.declared.record.Record.TheVariants as records
 use Rattle.rm_base.specs.Numbers.{last_scn}
 use Rattle.rm_history.specs.{World.{file_of}, declared.{tree.Incarnation.{Incarnation}, world.Datafile.{Datafile}}}
 use Rattle.rm_history.specs.Tree as tree
 use Rattle.rm_evidence.{specs.Database.{created_by, current_in, world_of, IsCurrent}, proofs.Files.{file_of-is}}
-use Rattle.rm_evidence.proofs.{DatabaseWorlds.{is-sound}, Found.{obeys, incarnation-rule, datafile-rule, datafile-there}}
+use Rattle.rm_evidence.proofs.DatabaseWorlds.{is-sound}
 
 base_at : (y : Record) → place_of y ≡ place 1 0 → (b : BaseEntry) × (base_in y ≡ Some b)
 base_at (records.Base b) h = (b, refl)

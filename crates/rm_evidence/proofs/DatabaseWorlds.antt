@@ -4,12 +4,13 @@ use Rattle.std.proofs.Common.{◌≡◌, ℕ, ◌+◌, ◌-◌, ◌<◌, ◌≤�
 use Rattle.std.proofs.lemmas.{Bool.{cases_lt}, Option.{same_Some}}
 use Rattle.rm_catalog.specs.{Facts.{BeginsOn, IncarnationRule, IsCreatedOn}, Keys.{datafile, incarnation}, Rules.{HasDatabase, IsCatalog}}
 use Rattle.rm_catalog.specs.{Trees.{nodes}, declared.record.{DatafileEntry.{DatafileEntry}, IncarnationEntry.{IncarnationEntry}}}
-use Rattle.rm_catalog.{specs.declared.record.Record.{Record}, proofs.Numbering.{entries, entry_at, number_is, number_there}}
-use Rattle.rm_catalog.proofs.{Switching.{switch-late}, Trees.{length_nodes, parents_below, some_node, few_nodes, in_tree_is}}
+use Rattle.rm_catalog.specs.declared.record.Record.{Record}
+use Rattle.rm_catalog.proofs.{Numbering.{entries, entry_at, number_is, number_there, incarnation-rule}, Switching.{switch-late}}
+use Rattle.rm_catalog.proofs.Trees.{length_nodes, parents_below, some_node, few_nodes, in_tree_is}
+use Rattle.rm_catalog.proofs.{Datafiles.{datafile-there, datafile-rule}, SwitchRules.{one-switch}}
 use Rattle.rm_history.specs.{Tree.{IsThere, IsTree, end_of, parent_of, reset_of}, World.{file_of}, declared.world.Datafile.{Datafile}}
 use Rattle.rm_history.specs.declared.tree.Incarnation as tree
 use Rattle.rm_evidence.{specs.Database.{created_by, world_of, IsCreated, IsSoundWorld}, proofs.Files.{file_of-is}}
-use Rattle.rm_evidence.proofs.{Found.{datafile-there, datafile-rule, incarnation-rule}, Switching.{one-switch}}
 
 -- an incarnation that is found is there
 pub found-there : (rs : List Record) (n : ℕ) (i : IncarnationEntry) → IsCatalog rs → incarnation n rs ≡ Some i → IsThere (nodes rs) n

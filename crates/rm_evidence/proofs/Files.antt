@@ -6,10 +6,10 @@ use Rattle.rm_catalog.specs.{Keys.{place, place_of, at, datafile, datafile_in}, 
 use Rattle.rm_catalog.{specs.declared.record.{DatafileEntry.{DatafileEntry}, Record.{Record}}, proofs.Found.{differ}}
 use Rattle.rm_catalog.proofs.{Numbering.{rises_catalog}, Told.{found_is}}
 use Rattle.rm_catalog.proofs.Telling.{told-record, record-told, told-ascends, HasNoGap, numbers-are}
+use Rattle.rm_catalog.proofs.Datafiles.{is-datafile, datafile-placed, datafile-rule, datafile-at, datafile-there}
 use Rattle.rm_catalog.specs.declared.record.Record.TheVariants as records
 use Rattle.rm_history.specs.{World.{file_of}, declared.world.Datafile.{Datafile}}
 use Rattle.rm_evidence.specs.Database.{created_by, datafiles, world_of}
-use Rattle.rm_evidence.proofs.Found.{is-datafile, datafile-placed, datafile-rule, datafile-at, datafile-there}
 
 -- what the datafiles among the records say, in order
 abbrev pub entries : List Record → List DatafileEntry

@@ -1,11 +1,13 @@
 pub mod Adding
+pub mod Artefacts
+pub mod Backups
 pub mod Contents
 pub mod Current
 pub mod DatabaseWorlds
 pub mod Extending
 pub mod Files
 pub mod Fitting
-pub mod Found
+pub mod Going
 pub mod Names
 pub mod Objects
 pub mod Ordered
@@ -15,7 +17,6 @@ pub mod Records
 pub mod Runs
 pub mod Seen
 pub mod Single
-pub mod Sorting
-pub mod Switching
 pub mod Tells
+pub mod Unique
 pub mod Worlds

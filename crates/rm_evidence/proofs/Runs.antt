@@ -5,14 +5,14 @@ use Rattle.std.proofs.lemmas.Option.{same_Some}
 use Rattle.rm_base.{specs.{Store.{Held}, declared.kinds.Bad.{Bad}}, proofs.Members.{none-in}}
 use Rattle.rm_catalog.specs.{Keys.{place, place_of}, Objects.{LogRule, PieceRule}, Rules.{IsCatalog}, declared.record.LogEntry.{LogEntry}}
 use Rattle.rm_catalog.{specs.declared.record.{PieceEntry.{PieceEntry}, SetEntry.{SetEntry}, Record.{Record}}, proofs.ByKinds.{free-in}}
-use Rattle.rm_catalog.proofs.{Numbering.{rises_catalog}, Told.{some_is}, Unique.{Rises, all_above}}
+use Rattle.rm_catalog.proofs.{Numbering.{rises_catalog, obeys}, Told.{some_is}, Unique.{Rises, all_above}}
 use Rattle.rm_catalog.specs.declared.record.Record.TheVariants as kind
 use Rattle.rm_piece.specs.declared.piece.Piece.{Piece}
 use Rattle.rm_redo.specs.declared.log_file.LogFile.{LogFile}
 use Rattle.rm_evidence.specs.{Available.{IsSkippedAmong}, Database.{Database, database_in, dbid_in}}
 use Rattle.rm_evidence.specs.{Gathered.{ById, ByIdAndFile, IsBaseAmong, IsGathered, IsLevel1Among, IsLogOf}, Names.{object_id}}
 use Rattle.rm_evidence.specs.{Place.{placed_evidence}, Taking.{Adds, Extends}, declared.evidence.{Evidence.{Evidence}, InPlace.{InPlace}}}
-use Rattle.rm_evidence.proofs.{Extending.{extends-as, extends-none}, Found.{obeys}}
+use Rattle.rm_evidence.proofs.Extending.{extends-as, extends-none}
 use Rattle.rm_evidence.proofs.Records.{base-by, bases-single, level1-by, level1s-single, log-by, logs-single, bad-by, skipped-single}
 use Rattle.rm_evidence.proofs.Single.{AreRelated, IsAhead, IsOfOne, extends-more, same-objects}
 

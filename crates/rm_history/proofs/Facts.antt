@@ -1,9 +1,9 @@
 -- What the evidence makes known of a block, and what it leaves unknown.
 use Rattle.std.{specs.Option.{option_map_or}, proofs.Common.{◌≡◌, ◌<◌, ◌≤◌, ◌∙◌, inl, inr, ℕ, refl, ap, sym, subst, arith}}
 use Rattle.std.proofs.lemmas.Bool.{cases_lt, cases_order}
-use Rattle.rm_base.specs.declared.block.Block.{Block}
+use Rattle.rm_base.specs.{BlockOrder.{IsBefore}, declared.block.Block.{Block}}
 use Rattle.rm_history.specs.{Tree.{owner}, World.{blocks_of}, Evidence.{Evidence}, Known.{Determined, Quiet, IsGap}}
-use Rattle.rm_history.specs.FirstGap.{IsTarget, IsDetermined, HasGap, IsRecoverable, IsBefore, IsFirstGap}
+use Rattle.rm_history.specs.FirstGap.{IsTarget, IsDetermined, HasGap, IsRecoverable, IsFirstGap}
 use Rattle.rm_history.specs.{Unknown.{IsWorld, IsKnown, IsKnownInAnyOrder, IsUnknown, IsUnknownInAnyOrder}, declared.world.World.{World}}
 use Rattle.rm_history.proofs.{States.{concerns-parts, state-members}, Orders.{ordered}, KnownStates.{IsAt}, Sound.{quiet-still, seen-state}}
 use Rattle.rm_history.proofs.Gaps.{could-be}

@@ -3,7 +3,7 @@ use Rattle.std.proofs.Common.{◌≡◌, ◌<◌, ◌≤◌, ◌∙◌, ◌⊎�
 use Rattle.rm_base.specs.{Content.{zero_block}, declared.block.{Block.{Block}, Change.{Change}, Row.{Row}}}
 use Rattle.rm_history.specs.{Tree.{owner}, World.{creation_of}, History.{IsHistory}, State.{concerns, state, IsState}}
 use Rattle.rm_history.specs.declared.world.World.{World}
-use Rattle.rm_history.proofs.States.{Concerns, concerns-parts, concerns-from, concerns-risen, state-held, state-one}
+use Rattle.rm_history.proofs.{Growth.{concerns-later}, States.{Concerns, concerns-parts, concerns-from, concerns-risen, state-held, state-one}}
 
 -- the change is one of the block at (m, g)
 pub record IsAt (f b m g : ℕ) (c : Change) : Type 0 where
@@ -111,3 +111,37 @@ version-below w h i s f b n created all = elim (state-held w h i s f b).held [
   | inl made ↦ let at = made.version in let low = all made.change made.is made.concerns in omega (arith, at, low)
   | inr untouched ↦ let at = untouched.version in omega (arith, at, created)
 ]
+
+-- a state with a version below a position is the state there
+pub settled : (w : World) (h : List Change) (i s position f b : ℕ) → IsHistory w h → s ≤ position → (state w h i position f b).version < s
+    → state w h i s f b ≡ state w h i position f b
+settled w h i s position f b history later below =
+    let is = state-held w h i position f b in
+    state-one w h i s f (state w h i position f b) history (record {
+      top = λ c held passes. is.top c held (concerns-later w i s position f b c later passes);
+      held = elim is.held [
+        | inl made ↦
+            let parts = concerns-parts w i position f b made.change made.concerns in
+            let at = made.version in
+            inl (record {
+              change = made.change;
+              is = made.is;
+              concerns = concerns-from w i s f b made.change
+                  (record { file = parts.file; block = parts.block; below = omega (arith, at, below); owned = parts.owned });
+              version = made.version;
+              content = made.content;
+            })
+        | inr untouched ↦ inr (record {
+          none = λ c held passes. untouched.none c held (concerns-later w i s position f b c later passes);
+          version = untouched.version;
+          content = untouched.content;
+        })
+      ];
+    })
+
+-- versions lie from the creation on, and below the position
+pub version-range : (w : World) (h : List Change) (i s f b : ℕ) → IsHistory w h → 1 ≤ creation_of w f → creation_of w f < s
+    → (1 ≤ (state w h i s f b).version) × ((state w h i s f b).version < s)
+version-range w h i s f b history some low =
+    let first = created-first w h i s f b history in
+    (omega (arith, some, first), version-below w h i s f b s low (λ c held passes. (concerns-parts w i s f b c passes).below))

@@ -4,7 +4,7 @@ use Rattle.std.proofs.Common.{◌≡◌, ◌∙◌, ◌<◌, ◌⊎◌, ◌==◌
 use Rattle.std.proofs.lemmas.{Bool.{cases_Bool, Decides.{nat_tests}}, List.Elements.{Contains-get_or}}
 use Rattle.std.proofs.lemmas.List.Kept.{AllPairs-cons, AllPairs-filter}
 use Rattle.rm_base.{specs.declared.block.{Change.{Change}, Row.{Row}}, proofs.Lists.{filter_from, filter_to, pairs-head, pairs-tail}}
-use Rattle.rm_base.proofs.Members.{behind, first-or-rest, in-front, none-in}
+use Rattle.rm_base.proofs.{Members.{behind, first-or-rest, in-front, none-in}, OneOrder.{one-order}, Standing.{each-in}}
 use Rattle.rm_history.specs.Artefacts.{Base, Level1, Log}
 use Rattle.rm_history.specs.Agrees.{BaseAgrees, ComesBefore, IsBelow, IsRow, Level1Agrees, LogAgrees, LogLists, is_of}
 use Rattle.rm_history.specs.{Evidence.{Agrees, AgreesInAnyOrder, Evidence}, History.{IsHistory, SameChanges, SamePlace}, State.{state}}
@@ -102,34 +102,6 @@ first-goes c d e = lower-goes c.inc d.inc e.inc (before-goes c d e)
 first-apart : (c d : Change) → IsFirst c d → ¬ SamePlace c d
 first-apart c d first same = lower-never c.inc d.inc same.inc (before-never c d same.scn same.file same.block) first
 
--- Lists in an order
-
-module _ {X : Type 0} (R : X → X → Type 0) (never : (x : X) → ¬ R x x) (goes : (x y z : X) → R x y → R y z → R x z) where
-  one-head : (x y : X) (xs ys : List X) → AllPairs R (x ∷ xs) → AllPairs R (y ∷ ys) → Contains (y ∷ ys) x → Contains (x ∷ xs) y → x ≡ y
-  one-head x y xs ys up down there back = elim (first-or-rest y ys x there) [
-    | inl same ↦ sym same
-    | inr later ↦ elim (first-or-rest x xs y back) [
-      | inl same ↦ same
-      | inr beyond ↦ absurd (never x (goes x y x (pairs-head R x xs y up beyond) (pairs-head R y ys x down later)))
-    ]
-  ]
-
-  one-rest : (x y : X) (xs ys : List X) (z : X) → AllPairs R (x ∷ xs) → x ≡ y → (Contains (x ∷ xs) z → Contains (y ∷ ys) z) → Contains xs z → Contains ys z
-  one-rest x y xs ys z up head same held = elim (first-or-rest y ys z (same (behind x xs z held))) [
-    | inl is ↦ absurd (never x (subst (R x) (sym (head ∙ is)) (pairs-head R x xs z up held)))
-    | inr there ↦ there
-  ]
-
-  -- two lists of the same items in one order are one
-  one-order : (xs ys : List X) → AllPairs R xs → AllPairs R ys → ((x : X) → Contains xs x ↔ Contains ys x) → xs ≡ ys
-  one-order [] [] up down same = refl
-  one-order [] (y ∷ ys) up down same = absurd (none-in y ((same y).1 (in-front y ys)))
-  one-order (x ∷ xs) [] up down same = absurd (none-in x ((same x).0 (in-front x xs)))
-  one-order (x ∷ xs) (y ∷ ys) up down same =
-      let head : x ≡ y = one-head x y xs ys up down ((same x).0 (in-front x xs)) ((same y).1 (in-front y ys)) in
-      let rest : xs ≡ ys = one-order xs ys (pairs-tail R x xs up) (pairs-tail R y ys down) (λ z. (one-rest x y xs ys z up head (same z).0, one-rest y x ys xs z down (sym head) (same z).1)) in
-      ap (λ v. v ∷ xs) head ∙ ap (λ vs. y ∷ vs) rest
-
 -- The changes of a history in their order
 
 -- the list with a change at its place
@@ -183,18 +155,15 @@ ordered-to (c ∷ cs) x is = elim (first-or-rest c cs x is) [
   | inr held ↦ to-put c (in_order cs) x (behind c (in_order cs) x (ordered-to cs x held))
 ]
 
-all-members : {X : Type 0} (P : X → Type 0) (xs : List X) → ((x : X) → Contains xs x → P x) → All P xs
-all-members P xs each k d inside = each (slice_index_or xs k d) (Contains-get_or xs k d inside)
-
 put-ascends-by : (b : Bool) (c d : Change) (ds : List Change) → is_first d c ≡ b → AllPairs IsFirst (d ∷ ds) → ((x : Change) → Contains (d ∷ ds) x → ¬ SamePlace c x)
     → AllPairs IsFirst (put c ds) → AllPairs IsFirst (cond b (d ∷ put c ds) (c ∷ d ∷ ds))
-put-ascends-by true c d ds is up apart ih = AllPairs-cons IsFirst d (put c ds) (all-members (IsFirst d) (put c ds) (λ x held. elim (first-or-rest c ds x (from-put c ds x held)) [
+put-ascends-by true c d ds is up apart ih = AllPairs-cons IsFirst d (put c ds) (each-in (IsFirst d) (put c ds) (λ x held. elim (first-or-rest c ds x (from-put c ds x held)) [
   | inl same ↦ subst (IsFirst d) same (is-first d c is)
   | inr there ↦ pairs-head IsFirst d ds x up there
 ])) ih
 put-ascends-by false c d ds is up apart ih =
     let first = other-first c d is (apart d (in-front d ds)) in
-    AllPairs-cons IsFirst c (d ∷ ds) (all-members (IsFirst c) (d ∷ ds) (λ x held. elim (first-or-rest d ds x held) [
+    AllPairs-cons IsFirst c (d ∷ ds) (each-in (IsFirst c) (d ∷ ds) (λ x held. elim (first-or-rest d ds x held) [
       | inl same ↦ subst (IsFirst c) same first
       | inr there ↦ first-goes c d x first (pairs-head IsFirst d ds x up there)
     ])) up
@@ -232,7 +201,7 @@ module _ (w : World) (k : List Change) (history : IsHistory w k) where
 
   -- a log that lists its changes agrees with the history in its order
   pub ordered-log : (a : Log) → LogLists k a → LogAgrees (in_order k) a
-  ordered-log a lists = one-order ComesBefore (λ c. before-never c c refl refl refl) before-goes a.changes (filter (is_of a) (in_order k)) lists.ascends (filter-ascends a) (λ c. (
+  ordered-log a lists = one-order ComesBefore (λ c d one two. before-never c c refl refl refl (before-goes c d c one two)) a.changes (filter (is_of a) (in_order k)) lists.ascends (filter-ascends a) (λ c. (
     λ held. let was = (lists.exact c).0 held in filter_to (is_of a) (in_order k) c (ordered-to k c was.0) was.1,
     λ held. let was = filter_from (is_of a) (in_order k) c held in (lists.exact c).1 (ordered-from k c was.0, was.1),
   ))

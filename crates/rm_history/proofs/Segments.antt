@@ -1,11 +1,11 @@
 -- Segments of a path: how far an artefact of a member may tell of the path, and where owners are the same.
 use Rattle.std.specs.Option.{option_map_or}
 use Rattle.std.proofs.Common.{◌≡◌, ◌≢◌, ◌<◌, ◌≤◌, ◌∙◌, inl, inr, nat_le, max, ℕ, zero, suc, List, length, Option, Some, None, true, false, refl, ap, sym, subst, arith, Contains, is_some, ◌&&◌, nat_eq}
-use Rattle.std.proofs.lemmas.Bool.{cases_eq, eq-eqb, ne_eqb, false_from_ne_true, Decides.{nat_tests}}
+use Rattle.std.proofs.lemmas.Bool.{and_parts, cases_eq, cases_lt, eq-eqb, ne_eqb, false_from_ne_true, Decides.{nat_tests}}
 use Rattle.rm_base.{specs.Numbers.{last_scn}, proofs.Members.{first-or-rest, in-front}}
-use Rattle.rm_history.specs.Tree.{HasParentsBelow, IsTree, IsThere, IsShared, owner, parent_of, reset_of, path, ancestors, segment_end, is_on_path, IsProperAncestor, is_within}
+use Rattle.rm_history.specs.Tree.{HasParentsBelow, IsTree, IsThere, IsShared, end_of, owner, parent_of, reset_of, path, ancestors, segment_end, is_on_path, IsProperAncestor, is_within}
 use Rattle.rm_history.{specs.declared.tree.Incarnation.{Incarnation}, proofs.States.{both-hold}}
-use Rattle.rm_history.proofs.Owners.{le_true, owner-owner, owner-above, path-step}
+use Rattle.rm_history.proofs.Owners.{le_true, owner-above, owner-below, owner-here, owner-owner, path-step}
 use Rattle.rm_history.proofs.Paths.{path-below, segment_end-here, segment_end-above, segment_end-some, is_on_path-member}
 
 -- where two paths have one owner of g, they have the same owners up to g
@@ -152,3 +152,16 @@ pub is_within_alike : (tree : List Incarnation) → IsTree tree → (j i high : 
 is_within_alike tree is j i high there within =
     let parts = both-hold (is_on_path tree j i) (option_map_or (λ end. nat_le high end) (segment_end tree j i) true) within in
     within_segment tree is i j high there ((is_on_path-member tree i j).0 parts.0) parts.1
+
+-- what holds on the path of an incarnation lies up to its end: where the incarnation begins, each path but its own has another owner
+pub within-end : (ns : List Incarnation) → IsTree ns → (i j high : ℕ) → IsThere ns i → reset_of ns i ≤ end_of ns i → high ≤ end_of ns j → is_within ns j i high ≡ true → high ≤ end_of ns i
+within-end ns is i j high there range most within = elim (cases_lt (reset_of ns i) high) [
+  | inr low ↦ omega (arith, low, range)
+  | inl over ↦
+      let on = (and_parts (is_on_path ns j i) (option_map_or (λ e. nat_le high e) (segment_end ns j i) true) within).0 in
+      let member = path-below ns is.parents i j ((is_on_path-member ns i j).0 on) in
+      let here = owner-here ns is.parents i (reset_of ns i) there.0 (omega arith) in
+      let below = (owner-below ns is.parents j (reset_of ns i) member.0).1 in
+      let same : j ≡ i = omega (arith, here, below, is_within_alike ns is j i high there within (reset_of ns i) over, member.1) in
+      subst (λ k. high ≤ end_of ns k) same most
+]

@@ -1,6 +1,6 @@
 -- The least block, of all files at an address, that is not determined.
-use Rattle.std.specs.Prelude.{ℕ, ◌≡◌, ◌<◌, ◌⊎◌, Some, true}
-use Rattle.rm_base.specs.declared.block.Block.{Block}
+use Rattle.std.specs.Prelude.{ℕ, ◌≡◌, ◌<◌, Some, true}
+use Rattle.rm_base.specs.{BlockOrder.{IsBefore}, declared.block.Block.{Block}}
 use Rattle.rm_history.specs.{Tree.{IsThere}, World.{file_of, exists}, Evidence.{Evidence}, Known.{Determined, IsGap}}
 use Rattle.rm_history.specs.declared.world.{Datafile.{Datafile}, World.{World}}
 
@@ -26,10 +26,6 @@ pub record HasGap (w : World) (e : Evidence) (i s f b m g : ℕ) : Type 0 where
 -- each block of each file that exists at (i, s) is determined
 abbrev pub IsRecoverable : World → Evidence → ℕ → ℕ → Type 0
 IsRecoverable w e i s = (f b : ℕ) → IsTarget w i s f b → IsDetermined w e i s f b
-
--- block b of file f comes before block d of file c
-abbrev pub IsBefore : ℕ → ℕ → ℕ → ℕ → Type 0
-IsBefore f b c d = (f < c) ⊎ ((f ≡ c) × (b < d))
 
 -- block b of file f is the least at (i, s) that is not determined, and (m, g) is its gap
 pub record IsFirstGap (w : World) (e : Evidence) (i s f b m g : ℕ) : Type 0 where

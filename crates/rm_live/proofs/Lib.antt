@@ -4,6 +4,7 @@ pub mod Fresh
 pub mod Mends
 pub mod Numbers
 pub mod Opened
+pub mod ReadAll
 pub mod Seats
 pub mod Sound
 pub mod Steps

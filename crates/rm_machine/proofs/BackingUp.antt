@@ -11,8 +11,10 @@ use Rattle.rm_channel.specs.{Jobs.{AreRows, Span, deeds_of}, Made.{AreThese, dee
 use Rattle.rm_history.specs.{Tree.{owner}, World.{blocks_of, exists, file_of}, declared.world.Datafile.{Datafile}}
 use Rattle.rm_track.specs.Bitmaps.{Bitmap, Tracked, candidates_at, candidates_of, joined, oldest, tracked_at, unmarked}
 use Rattle.rm_track.{specs.{Bits.{IsMarked, blocks_from}, Told.{starts_of}}, proofs.Marks.{marked-below}}
+use Rattle.rm_track.proofs.ReadBlocks.{AreKnown, all-marked, blocks-marked, blocks-rise, candidates-long, known-by, marked-block, marks_by}
 use Rattle.rm_catalog_typed.specs.Ledger.{ledger_records}
 use Rattle.rm_live.{specs.{History.{IsLegal}, Ruled.{upto}, declared.history.Event.{Event}}, proofs.Totals.{length_upto}}
+use Rattle.rm_live.proofs.ReadAll.{read-by}
 use Rattle.rm_piece.specs.{Level1s.{IsRead}, Valid.{IsBefore}}
 use Rattle.rm_redo.specs.{Logs.{Logs}, Online.{IsThread}}
 use Rattle.rm_lang_grammar.specs.{Grammar.{in_range}, Spelling.{maybe_valid}}
@@ -23,11 +25,9 @@ use Rattle.rm_machine.specs.{Tracked.{AreTracked, switch_all, with_tracker}, Sta
 use Rattle.rm_machine.specs.{Asked.{blocks_read, candidates_in, span_of, writers_of, writes_in}, Events.{opening}}
 use Rattle.rm_machine.specs.{MadeObjects.{CanRecord, IsRecordable, Packed, packed}, BackupOutcome.{at_end, begun, marked}}
 use Rattle.rm_machine.{specs.{BackupRefusal.{mark_count}, declared.{job.Job.{Job}, state.State.{State}}}, proofs.Backups.{IsTaken}}
-use Rattle.rm_machine.proofs.{Parents.{BeginsWithin, begins-within}, Places.{counted-open}}
-use Rattle.rm_machine.proofs.ReadBlocks.{AreKnown, all-marked, blocks-marked, blocks-rise, candidates-long, known-by, marked-block, marks_by, read-by}
-use Rattle.rm_machine.proofs.{Tracked.{tracked-switch_all}, BackupAccepted.{CanBeWritten, CanBackUp}}
-use Rattle.rm_machine.proofs.{Copies.{IsReady, each-recordable, packed-many, packed-same}, Groups.{mapped-sum}, MembersRead.{creation-by}}
-use Rattle.rm_machine.proofs.TakenFiles.{taken-blocks, taken-few, taken-rise}
+use Rattle.rm_machine.proofs.{Parents.{BeginsWithin, begins-within}, Places.{counted-open}, Tracked.{tracked-switch_all}}
+use Rattle.rm_machine.proofs.{BackupAccepted.{CanBeWritten, CanBackUp}, Copies.{IsReady, each-recordable, packed-many, packed-same}}
+use Rattle.rm_machine.proofs.{Groups.{mapped-sum}, MembersRead.{creation-by}, TakenFiles.{taken-blocks, taken-few, taken-rise}}
 use Rattle.rm_machine.proofs.BackupMarks.{count-marked, marked-same, sound-marked, unmarked-mark, with_mark}
 use Rattle.rm_machine.proofs.{PiecesRead.{AreAll, BeginsBelow, IsCheckpoint, blocks-by}, Deeds.{AllOf, WereRead, are-asked, are-read}}
 use Rattle.rm_machine.proofs.{Walk.{AreAsked, CanGoOn, HasWalked, events-same, walk}, Damaged.{damaged-same}}

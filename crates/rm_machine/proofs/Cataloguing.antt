@@ -2,7 +2,7 @@
 use Rattle.std.specs.Prelude.{IfSome}
 use Rattle.std.proofs.Common.{◌≡◌, ◌≢◌, ◌<◌, ◌≤◌, ◌+◌, ◌-◌, ◌∙◌, ◌==◌, ◌&&◌, inl, inr, nat_lt, cond, eq-eqb, ℕ, List, Option, Some, None, Bool, true, false, is_none, find, codes, max, refl, ap, sym, subst, arith, length}
 use Rattle.std.proofs.lemmas.{Bool.{and_parts, cases_Bool}, List.{length-set, Elements.{All-contains}}}
-use Rattle.rm_base.{specs.{Numbers.{last_scn}, Store.{Held}}, proofs.{Conditions.{unless}, Lists.{find_none}}}
+use Rattle.rm_base.{specs.{Numbers.{last_scn}, Store.{Held}}, proofs.{Conditions.{unless}, Lists.{find_none}, Standing.{each-in}}}
 use Rattle.rm_blocks.specs.File.{File, standing}
 use Rattle.rm_catalog.specs.declared.record.{BaseEntry.{BaseEntry}, LogEntry.{LogEntry}, PieceEntry.{PieceEntry}, SetEntry.{SetEntry}}
 use Rattle.rm_history.specs.{Tree.{IsThere, end_of, parent_of, reset_of}, declared.world.Datafile.{Datafile}}
@@ -11,15 +11,16 @@ use Rattle.rm_catalog_typed.specs.{Changes.{with_base, with_end_at}, Facts.{IsTy
 use Rattle.rm_catalog_typed.specs.{Fitting.{FitsBase, FitsLog, FitsPiece, IsObjectId, LacksId}, Ledger.{ledger_records}}
 use Rattle.rm_catalog_typed.specs.{Switches.{is_enabled_in}, TypedCatalog.{Saved}}
 use Rattle.rm_catalog_typed.proofs.{Fitted.{base_fits, end_fits, log_fits, many, piece_fits}, Trees.{Keeps, keeps_end}}
+use Rattle.rm_catalog_typed.proofs.Enabled.{enabled-risen}
 use Rattle.rm_piece.specs.Valid.{IsRow}
-use Rattle.rm_redo.specs.Online.{IsThread, has_log}
+use Rattle.rm_redo.{specs.Online.{IsThread, has_log}, proofs.FurtherLogs.{log-further}}
 use Rattle.rm_evidence.specs.Objects.{piece_entry}
 use Rattle.rm_machine.specs.CatalogName.{Found, IsFound, Obeys, artefact_of, catalog_refusal, catalogued, found_log, found_piece, id_of, ids_up_to, inc_of, lacks_ids_behind, raised, top_of}
 use Rattle.rm_machine.specs.{Machine.{IsValidArtefact}, Marks.{lacks_bytes, lacks_room}, Sound.{IsOnline, IsPlaced, IsPoint, IsSound}}
 use Rattle.rm_machine.specs.{Saved.{spelling_of}, SwitchLogfile.{log_entry}, Upkeep.{is_unknown, log_at, piece_at, set_at, with_catalog}}
 use Rattle.rm_machine.specs.{State.{counted, current_of, is_lost, ledger, now_of, online, redo_end, tree}, declared.state.State.{State}}
-use Rattle.rm_machine.proofs.{Enabled.{enabled-risen}, FurtherLogs.{log-further}, Later.{sound-with}, Places.{counted-closed, counted-open}}
-use Rattle.rm_machine.proofs.{Standing.{each-in}, Switching.{not-above}, Tracked.{tracked-later}, Damaged.{damaged-later}}
+use Rattle.rm_machine.proofs.{Later.{sound-with}, Places.{counted-closed, counted-open}, Switching.{not-above}, Tracked.{tracked-later}}
+use Rattle.rm_machine.proofs.Damaged.{damaged-later}
 
 -- The end of an incarnation rises
 

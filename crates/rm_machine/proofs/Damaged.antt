@@ -1,13 +1,13 @@
 -- The damaged blocks of a state: which changes of it, and of their list, leave them as they should be.
 use Rattle.std.specs.Option.{option_map}
-use Rattle.std.proofs.Common.{◌≡◌, ◌≢◌, ◌<◌, ◌≤◌, ◌-◌, ◌==◌, ◌&&◌, ◌∙◌, ◌⊎◌, inl, inr, nat_lt, ℕ, zero, suc, Bool, true, false, cond, List, [], ◌∷◌, Option, Some, None, IsSome, refl, ap, sym, subst, arith, eqb-true, filter, length, length-set, ltb-true, slice_index_or, slice_set, All}
+use Rattle.std.proofs.Common.{◌≡◌, ◌≢◌, ◌<◌, ◌≤◌, ◌-◌, ◌==◌, ◌&&◌, ◌∙◌, inl, inr, nat_lt, ℕ, zero, suc, Bool, true, false, cond, List, [], ◌∷◌, Option, Some, None, IsSome, refl, ap, sym, subst, arith, eqb-true, filter, length, length-set, ltb-true, slice_index_or, slice_set, All}
 use Rattle.std.proofs.lemmas.Bool.{and_parts, cases_eq, eq-eqb, or_cases, or_parts, Decides.{nat_tests}}
 use Rattle.std.proofs.lemmas.List.Elements.{All-cons, All-filter, All-head, All-nil, All-tail, All-weaker}
 use Rattle.std.proofs.lemmas.List.Kept.{AllPairs-cons, AllPairs-filter}
-use Rattle.rm_base.specs.declared.block.{BlockId.{BlockId}, Row.{Row}}
+use Rattle.rm_base.{specs.{BlockOrder.{AreInOrder, AscendByBlock}, declared.block.{BlockId.{BlockId}, Row.{Row}}}, proofs.BlockOrder.{order-leads}}
 use Rattle.rm_blocks.specs.File.{File, put}
 use Rattle.rm_catalog_typed.{specs.Facts.{IsTypedCatalog}, proofs.Trees.{Keeps}}
-use Rattle.rm_machine.specs.{Damage.{AreDamaged, AscendByBlock, IsInPlace, is_before, with_block}, Events.{with_placed_row}}
+use Rattle.rm_machine.specs.{Damage.{AreDamaged, IsInPlace, is_before, with_block}, Events.{with_placed_row}}
 use Rattle.rm_machine.specs.{State.{current_of, ledger, on_path, placed, tree}, declared.state.State.{State}}
 use Rattle.rm_machine.proofs.Tracked.{on_path-stays, on_tree_of}
 
@@ -90,10 +90,6 @@ damaged-put s f row is = damaged-kept s (with_placed_row s f row) refl refl (put
 
 -- Another list
 
--- the one stands before the other
-abbrev pub IsBefore : BlockId → BlockId → Type 0
-IsBefore x y = (x.file < y.file) ⊎ ((x.file ≡ y.file) × (x.block < y.block))
-
 abbrev pub with_list : State → List BlockId → State
 with_list s xs = record s { instance = record s.instance { damaged = xs } }
 
@@ -101,30 +97,18 @@ with_list s xs = record s { instance = record s.instance { damaged = xs } }
 pub damaged-filtered : (s : State) (p : BlockId → Bool) → AreDamaged s → AreDamaged (with_list s (filter p s.instance.damaged))
 damaged-filtered s p is = record {
   idle = λ closed. ap (filter p) (is.idle closed);
-  ascend = AllPairs-filter IsBefore p s.instance.damaged is.ascend;
+  ascend = AllPairs-filter AreInOrder p s.instance.damaged is.ascend;
   each = All-weaker (IsInPlace s) (IsInPlace (with_list s (filter p s.instance.damaged)))
       (λ x here. record { some = here.some; here = here.here; file = here.file; is = here.is; block = here.block }) (filter p s.instance.damaged) (All-filter p (IsInPlace s) s.instance.damaged is.each);
 }
 
-before-is : (x y : BlockId) → is_before x y ≡ true → IsBefore x y
+before-is : (x y : BlockId) → is_before x y ≡ true → AreInOrder x y
 before-is x y is = elim (or_cases (nat_lt x.file y.file) ((x.file == y.file) && nat_lt x.block y.block) is) [
   | inl file ↦ inl (ltb-true x.file y.file file)
   | inr both ↦ let parts = and_parts (x.file == y.file) (nat_lt x.block y.block) both in inr (eqb-true x.file y.file parts.0, ltb-true x.block y.block parts.1)
 ]
 
-before-then : (x y z : BlockId) → IsBefore x y → IsBefore y z → IsBefore x z
-before-then x y z one two = elim one [
-  | inl a ↦ elim two [
-    | inl b ↦ inl (omega (arith, a, b))
-    | inr b ↦ inl (omega (arith, a, b.0))
-  ]
-  | inr a ↦ elim two [
-    | inl b ↦ inl (omega (arith, a.0, b))
-    | inr b ↦ inr (a.0 ∙ b.0, omega (arith, a.1, b.1))
-  ]
-]
-
-behind-by : (x y : BlockId) → is_before x y ≡ false → ((x.file == y.file) && (x.block == y.block)) ≡ false → IsBefore y x
+behind-by : (x y : BlockId) → is_before x y ≡ false → ((x.file == y.file) && (x.block == y.block)) ≡ false → AreInOrder y x
 behind-by x y not_before other =
     let parts = or_parts (nat_lt x.file y.file) ((x.file == y.file) && nat_lt x.block y.block) not_before in
     elim (cases_eq x.file y.file) [
@@ -148,19 +132,19 @@ All-with_block P x (y ∷ ys) here all = by (is_before x y) ((x.file == y.file) 
 
 -- and it ascends
 pub ascend-with_block : (x : BlockId) (xs : List BlockId) → AscendByBlock xs → AscendByBlock (with_block x xs)
-ascend-with_block x [] are = AllPairs-cons IsBefore x [] (All-nil (IsBefore x)) are
+ascend-with_block x [] are = AllPairs-cons AreInOrder x [] (All-nil (AreInOrder x)) are
 ascend-with_block x (y ∷ ys) are = by (is_before x y) refl ((x.file == y.file) && (x.block == y.block)) refl (ascend-with_block x ys (λ i j d lt inside. are (suc i) (suc j) d (omega (arith, lt)) (omega (arith, inside))))
   where
-    head : All (IsBefore y) ys
+    head : All (AreInOrder y) ys
     head k d inside = are zero (suc k) d (omega arith) (omega (arith, inside))
 
     by : (first : Bool) → is_before x y ≡ first → (same : Bool) → ((x.file == y.file) && (x.block == y.block)) ≡ same → AscendByBlock (with_block x ys)
         → AscendByBlock (cond first (x ∷ y ∷ ys) (cond same (y ∷ ys) (y ∷ with_block x ys)))
     by true is same other rest =
         let one = before-is x y is in
-        AllPairs-cons IsBefore x (y ∷ ys) (All-cons (IsBefore x) y ys one (All-weaker (IsBefore y) (IsBefore x) (λ z. before-then x y z one) ys head)) are
+        AllPairs-cons AreInOrder x (y ∷ ys) (All-cons (AreInOrder x) y ys one (All-weaker (AreInOrder y) (AreInOrder x) (λ z. order-leads x y z one) ys head)) are
     by false is true other rest = are
-    by false is false other rest = AllPairs-cons IsBefore y (with_block x ys) (All-with_block (IsBefore y) x ys (behind-by x y is other) head) rest
+    by false is false other rest = AllPairs-cons AreInOrder y (with_block x ys) (All-with_block (AreInOrder y) x ys (behind-by x y is other) head) rest
 
 -- one more
 pub damaged-more : (s : State) (x : BlockId) → s.instance.is_open ≡ true → IsInPlace s x → AreDamaged s → AreDamaged (with_list s (with_block x s.instance.damaged))

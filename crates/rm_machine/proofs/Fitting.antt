@@ -1,7 +1,7 @@
 -- What is in place fits the records: each is valid, and of an incarnation that is there.
 use Rattle.std.{specs.List.{filter_map}, proofs.Common.{◌≡◌, ℕ, List, Some, false, refl, sym, subst, arith, All, length, slice_get}}
 use Rattle.std.proofs.lemmas.{List.Elements.{All-contains}, Option.{slice_get_within}}
-use Rattle.rm_base.{specs.Store.{Held}, proofs.{Lists.{map_from}, Slots.{all-get}}}
+use Rattle.rm_base.{specs.Store.{Held}, proofs.{Lists.{map_from}, Slots.{all-get}, Standing.{at-place, each-in, present-in}}}
 use Rattle.rm_blocks.specs.File.{File}
 use Rattle.rm_catalog.specs.declared.record.Record.{Record}
 use Rattle.rm_evidence.specs.{Gathered.{IsGathered, placed_piece}, Known.{FitsLog, FitsPiece}, Place.{FitsPlace}}
@@ -12,7 +12,7 @@ use Rattle.rm_piece.specs.Valid.{IsRow}
 use Rattle.rm_redo.specs.Online.{IsThread}
 use Rattle.rm_machine.specs.{Damage.{undamaged}, Recovery.{IsAtHand, in_place}, Sound.{IsPlaced, IsPlacedRow, IsSound}}
 use Rattle.rm_machine.{specs.{State.{ledger, tree, counted, online, is_lost}, declared.state.State.{State}}, proofs.AtHand.{online-in}}
-use Rattle.rm_machine.proofs.{Standing.{at-place, each-in, present-in}, Threads.{thread-in}, Undamaged.{undamaged-at}}
+use Rattle.rm_machine.proofs.{Threads.{thread-in}, Undamaged.{undamaged-at}}
 
 module _ (s : State) (sound : IsSound s) where
   -- a whole copy of a datafile is a valid piece

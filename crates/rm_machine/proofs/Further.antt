@@ -6,12 +6,11 @@ use Rattle.rm_blocks.specs.File.{File, standing}
 use Rattle.rm_history.specs.{Tree.{IsThere, end_of}, declared.{tree.Incarnation.{Incarnation}, world.Datafile.{Datafile}}}
 use Rattle.rm_history.proofs.{Ends.{end_of-with_end}, Highs.{high-above, high-bound}}
 use Rattle.rm_catalog_typed.specs.{Ledger.{ledger_records}, Switches.{is_enabled_in}, Facts.{IsTypedCatalog}}
-use Rattle.rm_catalog_typed.proofs.{Trees.{Keeps, keeps_end}, Fitted.{end_fits, many}}
-use Rattle.rm_redo.specs.Online.{IsThread, has_log}
+use Rattle.rm_catalog_typed.proofs.{Trees.{Keeps, keeps_end}, Fitted.{end_fits, many}, Enabled.{enabled-risen}}
+use Rattle.rm_redo.{specs.Online.{IsThread, has_log}, proofs.FurtherLogs.{log-further}}
 use Rattle.rm_machine.specs.{Marks.{last_marked, marks_before, one_further, with_marks}, Sound.{IsOnline, IsPlaced, IsSound}}
 use Rattle.rm_machine.specs.{State.{ledger, current_of, now_of, redo_end, online, is_lost}, declared.state.State.{State}}
-use Rattle.rm_machine.proofs.{Enabled.{enabled-risen}, FurtherLogs.{log-further}, Places.{counted-open}, BackupMarks.{marks-fit}}
-use Rattle.rm_machine.proofs.{Tracked.{tracked-later}, Damaged.{damaged-later}}
+use Rattle.rm_machine.proofs.{Places.{counted-open}, BackupMarks.{marks-fit}, Tracked.{tracked-later}, Damaged.{damaged-later}}
 
 -- so many records are not too many
 pub roomy-either : (n total : ℕ) → (nat_lt 0 n && nat_lt 65536 total) ≡ false → (n ≡ 0) ⊎ (total ≤ 65536)

@@ -3,7 +3,8 @@ use Rattle.std.specs.Option.{option_map_or}
 use Rattle.std.proofs.Common.{◌≡◌, ◌+◌, ◌-◌, ◌∙◌, ◌&&◌, inl, inr, ℕ, Some, true, false, ap, sym, arith, slice_get}
 use Rattle.std.proofs.lemmas.{Bool.{and_from, and_parts, cases_Bool}, List.Folds.{list_any_at, list_any_none}, Option.{slice_get_cases}}
 use Rattle.rm_redo.specs.{Logs.{Logs}, Online.{IsThread, IsLost, has_log}, declared.online.ThreadLog.{ThreadLog}}
-use Rattle.rm_machine.{specs.State.{has_lost, is_lost}, proofs.{Standing.{each-get}, Threads.{thread-in}}}
+use Rattle.rm_machine.{specs.State.{has_lost, is_lost}, proofs.Threads.{thread-in}}
+use Rattle.rm_base.proofs.Standing.{each-get}
 
 -- one that is lost is found
 pub lost-found : (logs : Logs) (t : ℕ) → IsThread logs t → IsLost logs t → has_lost logs ≡ true

@@ -3,7 +3,7 @@ use Rattle.std.specs.{List.{Contains}, Option.{option_map_or}}
 use Rattle.std.proofs.Common.{◌≡◌, ◌≢◌, ◌<◌, ◌≤◌, ◌+◌, ◌-◌, ◌∙◌, inl, inr, ℕ, suc, List, [], ◌∷◌, Option, Some, None, true, false, refl, ap, sym, subst, arith, slice_get, All}
 use Rattle.std.proofs.lemmas.{Bool.{cases_Bool}, List.{Elements.{All-cons, All-contains_itself, All-nil, All-weaker}, Kept.{AllPairs-cons}}}
 use Rattle.std.proofs.lemmas.Option.{slice_get_within}
-use Rattle.rm_base.proofs.Slots.{all-get}
+use Rattle.rm_base.proofs.{Slots.{all-get}, Standing.{each-get}}
 use Rattle.rm_blocks.specs.File.{File, standing}
 use Rattle.rm_history.{specs.Tree.{end_of}, proofs.Highs.{high-above}}
 use Rattle.rm_catalog_typed.proofs.Lookups.{item-at}
@@ -11,8 +11,8 @@ use Rattle.rm_live.specs.Parts.{IsNumbered, IsSound as IsSoundLive}
 use Rattle.rm_redo.specs.{LogFormat.{IsLogRecord}, Online.{first_of, has_log, no_log, thread_records}}
 use Rattle.rm_redo.specs.declared.online.{LogRecord.{LogRecord}, ThreadLog.{ThreadLog}}
 use Rattle.rm_machine.specs.{Sound.{IsGone, IsOnline, IsPlaced, IsSound}, State.{current_of, ledger, now_of, online, redo_end, tree}}
-use Rattle.rm_machine.{specs.{Events.{opening}, declared.state.State.{State}}, proofs.{Places.{counted-open}, Standing.{each-get}}}
-use Rattle.rm_machine.proofs.{Threads.{thread-in}, Following.{AreFrom, goes-along, present}, Numbered.{from-next, numbers-from}}
+use Rattle.rm_machine.{specs.{Events.{opening}, declared.state.State.{State}}, proofs.{Places.{counted-open}, Threads.{thread-in}}}
+use Rattle.rm_machine.proofs.{Following.{AreFrom, goes-along, present}, Numbered.{from-next, numbers-from}}
 
 -- what is true of each that stands in place is true of all that do
 pub present-all : (P : File → Type 0) (place : List (Option File)) → ((k : ℕ) (x : File) → slice_get place k ≡ Some (Some x) → P x) → All P (present place)

@@ -18,19 +18,6 @@ use Rattle.rm_evidence.proofs.DatabaseWorlds.{is-tree}
 use Rattle.rm_machine.specs.{Backup.{BeginsAt, HasParent, is_level1}, Sound.{IsSound}, State.{ledger, tree, current_of, now_of}}
 use Rattle.rm_machine.specs.declared.state.State.{State}
 
--- what holds on the path of an incarnation lies up to its end: where the incarnation begins, each path but its own has another owner
-pub within-end : (ns : List Incarnation) → IsTree ns → (i j high : ℕ) → IsThere ns i → reset_of ns i ≤ end_of ns i → high ≤ end_of ns j → is_within ns j i high ≡ true → high ≤ end_of ns i
-within-end ns is i j high there range most within = elim (cases_lt (reset_of ns i) high) [
-  | inr low ↦ omega (arith, low, range)
-  | inl over ↦
-      let on = (and_parts (is_on_path ns j i) (option_map_or (λ e. nat_le high e) (segment_end ns j i) true) within).0 in
-      let member = path-below ns is.parents i j ((is_on_path-member ns i j).0 on) in
-      let here = owner-here ns is.parents i (reset_of ns i) there.0 (omega arith) in
-      let below = (owner-below ns is.parents j (reset_of ns i) member.0).1 in
-      let same : j ≡ i = omega (arith, here, below, is_within_alike ns is j i high there within (reset_of ns i) over, member.1) in
-      subst (λ k. high ≤ end_of ns k) same most
-]
-
 -- a level 1 begins at an SCN up to now
 abbrev pub BeginsWithin : State → Option ℕ → Type 0
 BeginsWithin s None = Unit {0}

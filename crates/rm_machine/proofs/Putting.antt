@@ -3,11 +3,12 @@ use Rattle.std.specs.Option.{option_map}
 use Rattle.std.proofs.Common.{◌≡◌, ◌<◌, ◌-◌, ◌∙◌, inl, inr, ℕ, List, Option, Some, None, Bool, true, filter, refl, ap, sym, subst, arith, Contains, slice_get, slice_set}
 use Rattle.std.proofs.lemmas.List.{length-set, Elements.{All-contains}}
 use Rattle.rm_base.{specs.declared.block.{BlockId.{BlockId}, Row.{Row}}, proofs.Slots.{all-get, all-set_others, get-index, get-set}}
+use Rattle.rm_base.proofs.Standing.{each-in}
 use Rattle.rm_blocks.specs.File.{File, IsInOrder, put, standing}
 use Rattle.rm_history.{specs.declared.world.Datafile.{Datafile}, proofs.Highs.{high-above, high-bound}}
 use Rattle.rm_machine.specs.{Damage.{AreDamaged, IsInPlace, with_block}, Events.{with_placed_row}, Sound.{IsPlaced, IsPlacedRow, IsSound}}
 use Rattle.rm_machine.specs.{State.{counted, current_of, ledger, now_of, placed, tree}, declared.state.State.{State}}
-use Rattle.rm_machine.proofs.{Damaged.{damaged-filtered, damaged-more, damaged-put, with_list}, Places.{counted-open}, Standing.{each-in}}
+use Rattle.rm_machine.proofs.{Damaged.{damaged-filtered, damaged-more, damaged-put, with_list}, Places.{counted-open}}
 use Rattle.rm_machine.proofs.Tracked.{tracked-same}
 
 put-by : (o : Option File) (row : Row) (x : File) → option_map (λ y. put y row) o ≡ Some x → (y : File) × (o ≡ Some y) × (put y row ≡ x)

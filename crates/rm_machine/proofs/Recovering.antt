@@ -4,7 +4,7 @@ use Rattle.std.proofs.Common.{◌≡◌, ◌<◌, ◌≤◌, ◌+◌, ◌∙◌,
 use Rattle.std.proofs.lemmas.{Bool.{and_parts, eqb-true, ltb-true, Decides.{nat_tests}}, List.Elements.{All-contains}}
 use Rattle.std.proofs.lemmas.Option.{slice_get_within}
 use Rattle.rm_base.{specs.{Content.{zero_block}, declared.{block.Row.{Row}, refusal.Refusal.TheVariants.{Rm06}}}, proofs.Lists.{map_to}}
-use Rattle.rm_base.proofs.{Slots.{all-get}, Conditions.{unless}}
+use Rattle.rm_base.proofs.{Slots.{all-get}, Conditions.{unless}, Standing.{at-place, each-get}}
 use Rattle.rm_blocks.specs.File.{File}
 use Rattle.rm_lang_statement.specs.declared.command.Until.{Until}
 use Rattle.rm_evidence.{specs.{Known.{FitsTree, known_of}, declared.evidence.Evidence.{Evidence}}, proofs.Contents.{seen-content}}
@@ -18,7 +18,7 @@ use Rattle.rm_machine.specs.{Marks.{ids_refusal}, Recover.{recovered, recover_re
 use Rattle.rm_machine.specs.{Recovery.{put_over, range_refusal}, Sound.{IsPlaced, IsPlacedRow, IsPoint, IsSound}}
 use Rattle.rm_machine.{specs.{State.{ledger, tree, world, current_of, now_of}, declared.state.State.{State}}, proofs.Untils.{until-none}}
 use Rattle.rm_machine.proofs.{Exchanging.{sound-exchanged}, Numbers.{blocks-at, file-at, file-place}}
-use Rattle.rm_machine.proofs.{Placing.{number, over-at, over-cases, over-length}, Standing.{at-place, each-get}}
+use Rattle.rm_machine.proofs.Placing.{number, over-at, over-cases, over-length}
 
 -- why it was not refused
 pub record CanRecover (s : State) (at : ℕ) : Type 0 where

@@ -4,16 +4,17 @@ use Rattle.std.proofs.Common.{◌≡◌, ◌≢◌, ◌<◌, ◌≤◌, ◌+◌,
 use Rattle.std.proofs.lemmas.List.{get_or-map, length-map, Edits.{length-remove}}
 use Rattle.std.proofs.lemmas.List.Elements.{All-contains, All-head, All-tail, Contains-append_left, Contains-get_or}
 use Rattle.rm_base.{specs.declared.kinds.Kind.{Kind, TheVariants.{Full, Level0, Level1, Place}}, proofs.Keyed.{same_item}}
-use Rattle.rm_base.proofs.Lists.{pairs-head, pairs-tail}
+use Rattle.rm_base.proofs.{Lists.{pairs-head, pairs-tail}, Standing.{each-in}}
 use Rattle.rm_backup.specs.{Records.{pieces}, declared.renewing.Renewed.{Renewed}}
 use Rattle.rm_catalog.specs.{Objects.{FitsKind}, declared.record.PieceEntry.{PieceEntry}}
 use Rattle.rm_evidence.specs.{Objects.{piece_entry}, declared.evidence.Evidence.{Evidence}}
 use Rattle.rm_catalog_typed.specs.{LedgerFacts.{IsPieceEntry}, Changes.{with_new_piece, without_one, without_piece}, Fitting.{FitsNewPiece}}
 use Rattle.rm_catalog_typed.{specs.TypedCatalog.{records_of}, proofs.{Fitted.{many}, Records.{pieces-told}, Splits.{place-of-one}}}
+use Rattle.rm_catalog_typed.proofs.Deleting.{stays-one}
 use Rattle.rm_piece.specs.declared.piece.Piece.{Piece}
 use Rattle.rm_machine.specs.{RecoverCopy.{AreRenewed, after_copy, changed, is_kept, renewed_entry, renewed_refusal}, Sound.{IsSound}}
-use Rattle.rm_machine.{specs.{Upkeep.{with_catalog}, State.{ledger, tree}, declared.state.State.{State}}, proofs.Deleting.{stays-one}}
-use Rattle.rm_machine.proofs.{Entries.{GoesOn, piece-out}, Pieces.{sound-recorded, with_recorded}, Standing.{each-in}}
+use Rattle.rm_machine.specs.{Upkeep.{with_catalog}, State.{ledger, tree}, declared.state.State.{State}}
+use Rattle.rm_machine.proofs.{Entries.{GoesOn, piece-out}, Pieces.{sound-recorded, with_recorded}}
 
 -- What copies that take over level 1s have
 

@@ -2,7 +2,7 @@
 use Rattle.std.proofs.Common.{◌≡◌, ◌≢◌, ◌<◌, ◌≤◌, ◌+◌, ◌-◌, ◌∙◌, inl, inr, ℕ, List, Option, Some, None, IsSomeAnd, false, refl, ap, sym, subst, arith, length, slice_get, Contains}
 use Rattle.std.proofs.lemmas.List.Elements.{All-contains, All-weaker}
 use Rattle.rm_base.specs.{Store.{Held}, declared.{block.Row.{Row}, kinds.Kind.{Kind, TheVariants.{Full, Level0, Level1, Place}}}}
-use Rattle.rm_base.proofs.{Lists.{map_from}, Slots.{all-get}}
+use Rattle.rm_base.proofs.{Lists.{map_from}, Slots.{all-get}, Standing.{at-place, each-get}}
 use Rattle.rm_blocks.{specs.File.{File, created, created_rows}, proofs.Rows.{created-row, in_order-created, length-created}}
 use Rattle.rm_catalog.specs.{Objects.{FitsRows}, declared.record.{PieceEntry.{PieceEntry}, SetEntry.{SetEntry}}}
 use Rattle.rm_catalog.specs.declared.record.Record.TheVariants as kind
@@ -18,7 +18,7 @@ use Rattle.rm_catalog_typed.proofs.{Members.{piece-in, set-in}, Records.{files-t
 use Rattle.rm_piece.specs.{Valid.{FitsKind, IsPiece, IsRow}, declared.piece.Piece.{Piece}}
 use Rattle.rm_machine.specs.{Recovery.{in_place, put_over}, Restore.{restored}, Sound.{IsPlaced, IsPlacedRow, IsSound}}
 use Rattle.rm_machine.{specs.{State.{ledger, tree, world}, declared.state.State.{State}}, proofs.Exchanging.{sound-exchanged}}
-use Rattle.rm_machine.proofs.{Numbers.{file-at, file-place}, Placing.{over-cases, over-length}, Standing.{at-place, each-get}}
+use Rattle.rm_machine.proofs.{Numbers.{file-at, file-place}, Placing.{over-cases, over-length}}
 
 -- a piece that is no level 1 has each block
 pub entry-rows : (k : Kind) (n m : ℕ) → k ≢ Level1 → FitsRows k n m → n ≡ m

@@ -8,14 +8,15 @@ use Rattle.rm_history.proofs.{Owners.{owner-here}, Switches.{switched-other, swi
 use Rattle.rm_catalog_typed.specs.{Changes.{with_switch}, Fitting.{FitsSwitch}, Ledger.{Ledger, ledger_records}}
 use Rattle.rm_catalog_typed.specs.Switches.{IsAbove, enabled_by, is_enabled_in, leaves_one, switch_of, switches_of}
 use Rattle.rm_catalog_typed.{specs.declared.thread_switch.ThreadSwitch.{ThreadSwitch}, proofs.{Fitted.{switch_fits}, Trees.{parents_below}}}
+use Rattle.rm_catalog_typed.proofs.Enabled.{path-below}
 use Rattle.rm_redo.specs.{Logs.{Logs}, LogFormat.{IsLogRecord}, Online.{IsThread, empty_log, has_log, log_where, with_log}}
 use Rattle.rm_redo.{specs.declared.online.ThreadLog.{ThreadLog}, proofs.Logs.{other-with_log, put-with_log}}
 use Rattle.rm_machine.specs.{DisableThread.{has_other}, Marks.{marks_before, one_further}, Sound.{IsOnline, IsSound}}
 use Rattle.rm_machine.specs.{State.{current_of, is_lost, ledger, now_of, online, redo_end, tree}, declared.state.State.{State}}
-use Rattle.rm_machine.proofs.{Damaged.{damaged-same}, Enabled.{path-below}}
+use Rattle.rm_machine.proofs.Damaged.{damaged-same}
 use Rattle.rm_machine.proofs.Further.{GoesOn, count-further, further, inc-now, keeps-further, now-further, sound-further}
-use Rattle.rm_machine.proofs.{Standing.{each-get}, Threads.{file_by, gone-with_log, set-at, thread-in, where-gone, where-is_there}}
-use Rattle.rm_machine.proofs.Tracked.{tracked-same}
+use Rattle.rm_machine.proofs.{Threads.{file_by, gone-with_log, set-at, thread-in, where-gone, where-is_there}, Tracked.{tracked-same}}
+use Rattle.rm_base.proofs.Standing.{each-get}
 
 -- what is asked of a switch: the database goes on by one SCN and has room for one record more; the thread is not as the switch says, and
 -- another one stays if it goes

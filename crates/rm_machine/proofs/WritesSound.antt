@@ -11,13 +11,14 @@ use Rattle.rm_history.proofs.{Highs.{high-above, high-bound}, Worlds.{file-there
 use Rattle.rm_catalog_typed.specs.{LedgerFacts.{IsCreated}, Ledger.{Ledger}, Switches.{is_enabled_in}}
 use Rattle.rm_redo.specs.{LogFormat.{IsLogRecord}, Online.{IsThread, record_of}, declared.online.LogRecord.{LogRecord}}
 use Rattle.rm_redo.proofs.Logs.{around-with_change, first_of-with_change, inc-with_change, is_lost-with_change, thread_records-with_change, thread_records-with_change_other, sequence_of-with_change}
+use Rattle.rm_redo.proofs.FurtherLogs.{IsPushed, log-further}
 use Rattle.rm_track.specs.Bitmaps.{mark_at}
 use Rattle.rm_machine.specs.Sound.{IsOnline, IsPlaced, IsPlacedRow, IsSound}
 use Rattle.rm_machine.specs.{State.{current_of, is_lost, ledger, now_of, online, placed, redo_end, world}, Tracked.{with_tracker}}
 use Rattle.rm_machine.specs.{Write.{change_of, with_write}, Events.{with_placed_row}, declared.state.State.{State}}
-use Rattle.rm_machine.proofs.{Further.{further, keeps-further, now-further, redo-now, sound-further}, FurtherLogs.{IsPushed, log-further}}
-use Rattle.rm_machine.proofs.{Places.{counted-open}, Threads.{gone-with_change, thread-before}, Tracked.{tracked-marked, tracked-same}}
-use Rattle.rm_machine.proofs.{Writes.{Accepted}, Damaged.{damaged-put, damaged-same}}
+use Rattle.rm_machine.proofs.{Further.{further, keeps-further, now-further, redo-now, sound-further}, Places.{counted-open}}
+use Rattle.rm_machine.proofs.{Threads.{gone-with_change, thread-before}, Tracked.{tracked-marked, tracked-same}, Writes.{Accepted}}
+use Rattle.rm_machine.proofs.Damaged.{damaged-put, damaged-same}
 
 module _ (s : State) (w : WriteForm) (sound : IsSound s) (a : Accepted s w) (full : length w.content.0 ≡ 64) where
   abbrev l : Ledger

@@ -1,7 +1,7 @@
 -- The blocks in place that are damaged, and what they take away.
-use Rattle.std.specs.Prelude.{ℕ, ◌≡◌, ◌+◌, ◌<◌, ◌==◌, ◌&&◌, ◌||◌, ◌⊎◌, nat_lt, if◌then◌else◌, Bool, false, Option, Some, None, IsSome, List, [], ◌∷◌, All, AllPairs, length}
+use Rattle.std.specs.Prelude.{ℕ, ◌≡◌, ◌+◌, ◌<◌, ◌==◌, ◌&&◌, ◌||◌, nat_lt, if◌then◌else◌, Bool, false, Option, Some, None, IsSome, List, [], ◌∷◌, All, length}
 use Rattle.std.specs.List.{list_any}
-use Rattle.rm_base.specs.declared.block.BlockId.{BlockId}
+use Rattle.rm_base.specs.{BlockOrder.{AscendByBlock}, declared.block.BlockId.{BlockId}}
 use Rattle.rm_blocks.specs.File.{File}
 use Rattle.rm_machine.specs.{State.{on_path, placed}, declared.state.State.{State}}
 
@@ -39,10 +39,6 @@ without_damaged s =
         damaged = [];
       };
     }
-
--- they ascend, and so each is there once
-abbrev pub AscendByBlock : List BlockId → Type 0
-AscendByBlock xs = AllPairs (λ x y. (x.file < y.file) ⊎ ((x.file ≡ y.file) × (x.block < y.block))) xs
 
 -- it is a block of a datafile in place, which is on the current path
 pub record IsInPlace (s : State) (x : BlockId) : Type 0 where

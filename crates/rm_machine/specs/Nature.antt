@@ -101,3 +101,15 @@ tries ChangesByHeld = false
 tries TriesByHeld = true
 tries Records = true
 tries Mishap = true
+
+-- it goes by the state alone, whatever the store has
+abbrev pub by_state : Nature → Bool
+by_state Unbuilt = false
+by_state TellsState = true
+by_state TellsHeld = false
+by_state TestsHeld = false
+by_state Changes = true
+by_state ChangesByHeld = false
+by_state TriesByHeld = false
+by_state Records = false
+by_state Mishap = false

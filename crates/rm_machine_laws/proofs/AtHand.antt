@@ -2,19 +2,19 @@
 use Rattle.std.specs.List.{filter_map}
 use Rattle.std.proofs.Common.{◌≡◌, ◌≢◌, ◌∙◌, ◌+◌, inl, inr, ℕ, List, Some, false, ap, subst, arith, map, Contains, slice_get}
 use Rattle.std.proofs.lemmas.List.Elements.{Contains-append_cases}
-use Rattle.rm_base.{specs.{Store.{Held}, declared.kinds.Kind.TheVariants.{Level1}}, proofs.Lists.{map_from}}
+use Rattle.rm_base.{specs.{Store.{Held}, declared.kinds.Kind.TheVariants.{Level1}}, proofs.{Lists.{map_from}, Standing.{present-in}}}
 use Rattle.rm_blocks.specs.File.{File}
 use Rattle.rm_catalog.specs.declared.record.{LogEntry.{LogEntry}, PieceEntry.{PieceEntry}, SetEntry.{SetEntry}}
 use Rattle.rm_evidence.specs.{Available.{HasLogObject, HasPieceObject, HasSetObject}, Database.{Database, database_in}}
 use Rattle.rm_evidence.specs.Gathered.{IsBaseOf, IsLevel1Of, IsLogOf, IsPieceAmong, placed, placed_piece}
-use Rattle.rm_evidence.specs.declared.evidence.Evidence.{Evidence}
+use Rattle.rm_evidence.{specs.declared.evidence.Evidence.{Evidence}, proofs.Backups.{placed-under}}
 use Rattle.rm_piece.specs.declared.{piece.Piece.{Piece}, set.{Set.{Set}, SetFile.{SetFile}}}
 use Rattle.rm_redo.specs.{Online.{IsThread}, declared.log_file.LogFile.{LogFile}}
 use Rattle.rm_catalog_typed.{specs.{TypedCatalog.{records_of}, Worlds.{database_of}}, proofs.Members.{log-in, piece-in, set-in}}
 use Rattle.rm_catalog_typed.proofs.Records.{base-told}
 use Rattle.rm_machine.specs.{Damage.{has_file, undamaged}, Recovery.{IsAtHand, in_place, online_logs}, Sound.{IsSound}}
 use Rattle.rm_machine.{specs.{State.{ledger, counted, online, is_lost}, declared.state.State.{State}}, proofs.Undamaged.{undamaged-at}}
-use Rattle.rm_machine.proofs.{Standing.{present-in}, AtHand.{online-in}, Threads.{thread-in}}
+use Rattle.rm_machine.proofs.{AtHand.{online-in}, Threads.{thread-in}}
 
 -- a log at hand is an online one that is not lost, or the log of a record
 pub data LogFrom (s : State) (held : Held) : LogFile → Type 0 where
@@ -36,12 +36,6 @@ pub record Level1From (s : State) (held : Held) (a : Piece) : Type 0 where
   pub kind : a.kind ≡ Level1
   pub backup : BackupFrom s held a
 
--- what is in place stands under the id 0
-placed-from : {A : Type 0} (items : List A) (id : ℕ) (a : A) → Contains (placed items) (id, a) → Contains items a
-placed-from {A} items id a has =
-    let found = map_from (λ (x : A). (0, x)) items (id, a) has in
-    subst (Contains items) (ap (λ (p : ℕ × A). p.1) found.is) found.held
-
 module _ (s : State) (held : Held) (sound : IsSound s) (e : Evidence) (gathered : IsAtHand s held e) where
   placed-log : (a : LogFile) → Contains (online_logs s 1 4) a → LogFrom s held a
   placed-log a has =
@@ -59,7 +53,7 @@ module _ (s : State) (held : Held) (sound : IsSound s) (e : Evidence) (gathered 
 
   pub log-from : (id : ℕ) (a : LogFile) → Contains e.logs (id, a) → LogFrom s held a
   log-from id a has = elim (Contains-append_cases (placed (in_place s).logs) gathered.logs.rest (id, a) (subst (λ xs. Contains xs (id, a)) gathered.logs.list has)) [
-    | inl here ↦ placed-log a (placed-from (in_place s).logs id a here)
+    | inl here ↦ placed-log a (placed-under (in_place s).logs id a here).1
     | inr rest ↦
         let is : IsLogOf held (records_of s.catalog) id a = (gathered.logs.exact id a).0 rest in
         from_log is.0 a (log-in s.catalog is.0 sound.catalog is.1) is.3
@@ -72,7 +66,7 @@ module _ (s : State) (held : Held) (sound : IsSound s) (e : Evidence) (gathered 
 
   pub base-from : (id : ℕ) (a : Piece) → Contains e.bases (id, a) → BaseFrom s held a
   base-from id a has = elim (Contains-append_cases (placed (map (placed_piece (ledger s).base.dbid) (in_place s).files)) gathered.bases.rest (id, a) (subst (λ xs. Contains xs (id, a)) gathered.bases.list has)) [
-    | inl here ↦ placed-file a (placed-from (map (placed_piece (ledger s).base.dbid) (in_place s).files) id a here)
+    | inl here ↦ placed-file a (placed-under (map (placed_piece (ledger s).base.dbid) (in_place s).files) id a here).1
     | inr rest ↦
         let is : IsBaseOf held (records_of s.catalog) id a = (gathered.bases.exact id a).0 rest in
         from_copy a is.1 (backup-from id a is.0)

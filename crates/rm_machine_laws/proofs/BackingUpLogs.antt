@@ -3,6 +3,7 @@ use Rattle.std.specs.Option.{option_map_or}
 use Rattle.std.proofs.Common.{◌≡◌, ◌∙◌, ◌++◌, ℕ, suc, List, [], ◌∷◌, Option, Some, None, refl, sym, subst, append_assoc, filter, length, map, All, Contains}
 use Rattle.std.proofs.lemmas.List.{append-nil, Elements.{All-head, All-tail}}
 use Rattle.rm_base.{specs.{Store.{Held}, declared.{block.Change.{Change}, refusal.Refusal.{Refusal}}}, proofs.Lists.{filter_from, map_from}}
+use Rattle.rm_base.proofs.Standing.{each-in}
 use Rattle.rm_catalog.specs.declared.record.{LogEntry.{LogEntry}, Record.TheVariants.{Log}}
 use Rattle.rm_commit.specs.Names.{HasPuts}
 use Rattle.rm_evidence.specs.{Available.{HasLogObject}, Gathered.{IsLogOf, Lists}}
@@ -13,7 +14,7 @@ use Rattle.rm_lang_statement.specs.declared.command.Command.TheVariants.{BackupL
 use Rattle.rm_machine.specs.BackupLogs.{archived_in, copies_of, copies_refusal, copy_entry, copy_made, copy_object, copying, with_copies}
 use Rattle.rm_machine.specs.{Effect.{Effect, Made, a_log, done, refused}, Machine.{DigestsTellFor, IsBorneOut, IsTrueArtefact}}
 use Rattle.rm_machine.{specs.{Sound.{IsSound}, State.{ledger, world}, declared.state.State.{State}}, proofs.Left.{HasRoom}}
-use Rattle.rm_machine.proofs.{Kept.{stand-same}, Later.{borne-beside, fits-with}, Standing.{each-in}}
+use Rattle.rm_machine.proofs.{Kept.{stand-same}, Later.{borne-beside, fits-with}}
 use Rattle.rm_machine.proofs.BackingUpLogs.{CanRecord, after_copies, can-next, can-record, room-for, room-next, with_copy}
 use Rattle.rm_machine.proofs.BackingUpLogs as shared
 use Rattle.rm_machine_laws.proofs.{Agreeing.{log-agrees}, Leading.{LeadsOnBy, StaysBy}, Quiet.{same-stays, unchanged}}

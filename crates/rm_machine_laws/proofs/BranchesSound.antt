@@ -7,13 +7,13 @@ use Rattle.rm_history.specs.{Tree.{IsThere, end_of, with_branch}, declared.{tree
 use Rattle.rm_history.proofs.Branches.{IsThere-branched, end_of-branched, reset_of-branched}
 use Rattle.rm_catalog_typed.specs.{LedgerFacts.{IsMark}, Ledger.{Ledger}, Changes.{with_incarnation}, Facts.{IsTypedCatalog}}
 use Rattle.rm_catalog_typed.{specs.{Fitting.{FitsBranch, HasRoomFor}, Switches.{enabled_at, is_enabled_in}}, proofs.Fitted.{branch_fits}}
+use Rattle.rm_catalog_typed.proofs.Current.{current-kept}
 use Rattle.rm_redo.specs.Online.{fresh_log}
 use Rattle.rm_machine.specs.{OpenResetlogs.{branched_off, next_incarnation, with_branched_off}, Sound.{IsPlaced, IsPoint, IsSound}}
 use Rattle.rm_machine.{specs.{State.{ledger, world, current_of, redo_end}, declared.state.State.{State}}, proofs.Damaged.{damaged-none}}
 use Rattle.rm_machine.proofs.{Tracked.{tracked-fresh}, Places.{counted-closed, counted-open}, BranchesSound.{CanBranchAt}}
 use Rattle.rm_machine.proofs.Threads.{all-where_gone, where-there}
-use Rattle.rm_machine_laws.proofs.{Current.{current-kept}, FreshLogs.{fresh-found, fresh-online}}
-use Rattle.rm_machine_laws.proofs.Opened.{below-point, kept-get, kept-length, placed-standing}
+use Rattle.rm_machine_laws.proofs.{FreshLogs.{fresh-found, fresh-online}, Opened.{below-point, kept-get, kept-length, placed-standing}}
 
 -- whether the threads are enabled where the new incarnation begins
 abbrev pub enabled : State → ℕ → List Bool

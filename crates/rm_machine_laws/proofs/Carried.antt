@@ -1,9 +1,8 @@
 -- What is handed out and carried out is a step.
 use Rattle.std.{specs.Option.{option_map}, proofs.Common.{◌≡◌, ◌∙◌, ℕ, List, Option, Some, None, refl, ap, sym, subst}}
-use Rattle.rm_base.specs.{Store.{Held}, declared.refusal.Refusal.{Refusal}}
+use Rattle.rm_base.{specs.{Store.{Held}, declared.refusal.Refusal.{Refusal}}, proofs.Both.{both-told}}
 use Rattle.rm_catalog.specs.{Edits.{after_edits}, declared.record.Record.{Record}}
 use Rattle.rm_commit.specs.{Carrying.{AreMoved, Carried}, Names.{HasPuts, HasRemoves}, declared.commit.Commit.{Commit}}
-use Rattle.rm_commit.proofs.Told.{both-told}
 use Rattle.rm_lang_statement.specs.declared.command.Command.{Command, TheVariants.{CreateDatabase}}
 use Rattle.rm_report.specs.{Reply.{refused_by, said}, declared.line.{Line.{Line}, Reply.{Reply}}}
 use Rattle.rm_machine.specs.{Effect.{Effect, LeavesObjects, Outcome, done, refused, told}, Honest.{IsHonest}}

@@ -4,14 +4,13 @@ use Rattle.rm_base.specs.{Store.{Held}, declared.block.Change.{Change}}
 use Rattle.rm_blocks.specs.File.{base_of}
 use Rattle.rm_history.specs.{Agrees.{BaseAgrees}, Tree.{IsThere}}
 use Rattle.rm_track.specs.Told.{Tell}
-use Rattle.rm_catalog_typed.specs.Facts.{IsTypedCatalog}
+use Rattle.rm_catalog_typed.{specs.Facts.{IsTypedCatalog}, proofs.Current.{current-kept}}
 use Rattle.rm_machine.specs.{Effect.{Made}, Machine.{HistoryFits, IsBorneOut}, ResetDatabase.{at_incarnation, reset_refusal}}
 use Rattle.rm_machine.specs.{Sound.{IsPlaced, IsSound}, State.{current_of, now_of, world}, declared.state.State.{State}}
 use Rattle.rm_machine.proofs.{Damaged.{damaged-none}, Tracked.{tracked-none}, FirstTold.{tell-none}, Places.{counted-closed}}
 use Rattle.rm_machine.proofs.Threads.{number-within}
 use Rattle.rm_lang_statement.specs.declared.command.Command.TheVariants.{ResetDatabase}
-use Rattle.rm_machine_laws.proofs.{CountedLogs.{counted-agree, counted-online}, Current.{current-kept}, Leading.{LeadsOnBy, StaysBy}}
-use Rattle.rm_machine_laws.proofs.Quiet.{quiet-on, quiet-stays}
+use Rattle.rm_machine_laws.proofs.{CountedLogs.{counted-agree, counted-online}, Leading.{LeadsOnBy, StaysBy}, Quiet.{quiet-on, quiet-stays}}
 
 pub record CanChoose (s : State) (i : ℕ) : Type 0 where
   pub shut : s.instance.is_open ≡ false

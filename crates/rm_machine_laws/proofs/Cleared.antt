@@ -4,11 +4,10 @@ use Rattle.std.proofs.lemmas.{Bool.{cases_Bool, eq-eqb, eqb-true, false≢true},
 use Rattle.rm_base.specs.{Store.{Held}, declared.{block.Change.{Change}, kinds.Policy.{Policy, TheVariants.{Nothing, Redundancy, Window}}}}
 use Rattle.rm_base.proofs.{Lists.{any_from, any_none}, Members.{in-front}}
 use Rattle.rm_catalog.specs.{Keys.{at, key_of, place, place_of}, Rules.{IsCatalog}, declared.record.LogEntry.{LogEntry}}
-use Rattle.rm_catalog.specs.declared.record.{PieceEntry.{PieceEntry}, Record.{Record}, SetEntry.{SetEntry}}
+use Rattle.rm_catalog.{specs.declared.record.{PieceEntry.{PieceEntry}, Record.{Record}, SetEntry.{SetEntry}}, proofs.Numbering.{at-is}}
 use Rattle.rm_catalog.specs.declared.record.Record.TheVariants as kind
-use Rattle.rm_apply.proofs.Unique.{evidence_one}
-use Rattle.rm_evidence.{specs.{Database.{database_in}, Known.{known_of}, declared.evidence.Evidence.{Evidence}}, proofs.Worlds.{is_world}}
-use Rattle.rm_evidence.proofs.{Current.{current_is}, Found.{at-is}}
+use Rattle.rm_evidence.specs.{Database.{database_in}, Known.{known_of}, declared.evidence.Evidence.{Evidence}}
+use Rattle.rm_evidence.proofs.{Unique.{evidence_one}, Worlds.{is_world}, Current.{current_is}}
 use Rattle.rm_history.specs.{History.{IsHistory}, Evidence.{Agrees}, FirstGap.{IsRecoverable, IsTarget}, Known.{Determined}}
 use Rattle.rm_history.specs.declared.world.World.{World}
 use Rattle.rm_catalog_typed.specs.{Ledger.{Ledger, ledger_records}, Facts.{IsTypedCatalog}, TypedCatalog.{TypedCatalog, records_of}}

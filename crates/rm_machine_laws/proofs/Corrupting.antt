@@ -11,9 +11,8 @@ use Rattle.rm_machine.specs.{Corrupt.{corrupt_refusal, corrupted, flipped, with_
 use Rattle.rm_machine.specs.{Dump.{placed_row}, Effect.{Made}, Events.{with_placed_row}, Machine.{HistoryFits, IsBorneOut, SoundRowsAre}}
 use Rattle.rm_machine.specs.{Sound.{IsSound}, State.{current_of, now_of, on_path, placed, world}, declared.state.State.{State}}
 use Rattle.rm_machine.proofs.{Damaged.{put-stays}, Found.{IsReadOf, read-found}, Places.{placed-is}, Putting.{sound-more, sound-put}}
-use Rattle.rm_machine.proofs.Tracked.{on-path}
-use Rattle.rm_machine_laws.proofs.{DamagedLists.{any-fewer, is-block, with-block-new, with-block-old}, DamagedRows.{sound-agrees}}
-use Rattle.rm_machine_laws.proofs.{Leading.{LeadsOnBy, StaysBy}, Quiet.{quiet-on, quiet-stays}}
+use Rattle.rm_machine.proofs.{Tracked.{on-path}, DamagedLists.{any-fewer, is-block, with-block-new, with-block-old}}
+use Rattle.rm_machine_laws.proofs.{DamagedRows.{sound-agrees}, Leading.{LeadsOnBy, StaysBy}, Quiet.{quiet-on, quiet-stays}}
 
 -- a row that stands in place is found there
 pub row-found : (s : State) (f b : ℕ) (r : Row) → IsSound s → 0 < f → placed_row s f b ≡ Some r → IsReadOf s f b r

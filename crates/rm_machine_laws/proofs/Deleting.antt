@@ -8,6 +8,7 @@ use Rattle.rm_catalog.specs.declared.record.{LogEntry.{LogEntry}, PieceEntry.{Pi
 use Rattle.rm_commit.{specs.Names.{HasRemoves, is_named, itself, nothing}, proofs.Named.{same-name, unnamed-stays}}
 use Rattle.rm_catalog_typed.specs.{Ledger.{Ledger}, Changes.{higher, lower, without_one}, Facts.{IsTypedCatalog}}
 use Rattle.rm_catalog_typed.{specs.TypedCatalog.{TypedCatalog}, proofs.Lookups.{log-id-within, piece-id-within, set-id-within}}
+use Rattle.rm_catalog_typed.proofs.Deleting.{stays-one}
 use Rattle.rm_evidence.specs.Names.{log_name, piece_name, roll_name, set_name, site_name}
 use Rattle.rm_evidence.proofs.Names.{log-name-tells, log-no-piece, log-no-roll, log-no-set, log-no-site, piece-name-tells, piece-no-roll, piece-no-set, piece-no-site, set-name-tells, set-no-roll, set-no-site}
 use Rattle.rm_report.specs.declared.line.Line.{Line}
@@ -15,7 +16,7 @@ use Rattle.rm_lang_statement.specs.declared.command.Command.TheVariants.{DeleteB
 use Rattle.rm_machine.specs.{Effect.{Effect, LeavesObjects, Made, done}, Machine.{IsBorneOut}}
 use Rattle.rm_machine.specs.{Names.{IsObjectName, of_log, of_piece, of_set}, Sound.{IsSound}}
 use Rattle.rm_machine.specs.{Upkeep.{names_at, removing, with_catalog, without_all, without_record}, declared.state.State.{State}}
-use Rattle.rm_machine.proofs.{Kept.{StandOn, stand-where}, Later.{borne-beside}, Upkeep.{all-on}, Deleting.{stays-one}}
+use Rattle.rm_machine.proofs.{Kept.{StandOn, stand-where}, Later.{borne-beside}, Upkeep.{all-on}}
 use Rattle.rm_machine_laws.proofs.{Leading.{LeadsOnBy, StaysBy}, Quiet.{removing-on, removing-stays}}
 
 -- one of these names

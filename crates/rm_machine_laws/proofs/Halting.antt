@@ -1,11 +1,11 @@
 -- What a stop leaves, wherever it came.
 use Rattle.std.proofs.Common.{◌≡◌, ◌∙◌, ◌++◌, ◌⊎◌, inl, inr, ℕ, List, Option, Some, None, IsSomeAnd, true, false, refl, ap, sym, subst, arith, Contains}
 use Rattle.std.proofs.lemmas.{Bool.{cases_Bool}, List.Elements.{Contains-append_left, Contains-append_right}}
-use Rattle.rm_base.specs.{Store.{Held}, declared.block.Change.{Change as BlockChange}}
+use Rattle.rm_base.{specs.{Store.{Held}, declared.block.Change.{Change as BlockChange}}, proofs.Both.{both-told}}
 use Rattle.rm_catalog.specs.declared.record.{PartEntry.{PartEntry}, Record.{Record}}
 use Rattle.rm_commit.specs.Carrying.{ArePut, Halted, after_the_edits, before_the_edits}
 use Rattle.rm_commit.specs.{Names.{SameBeyondPuts, after_all, is_named, itself, name_of, nothing}, declared.commit.Commit.{Commit}}
-use Rattle.rm_commit.proofs.{Named.{unnamed-stays}, Told.{both-told}}
+use Rattle.rm_commit.proofs.Named.{unnamed-stays}
 use Rattle.rm_lang_statement.specs.declared.command.Command.{Command}
 use Rattle.rm_report.specs.{Reply.{said}, declared.line.{Line.{Line}, Reply.{Reply}}}
 use Rattle.rm_evidence.{specs.Names.{roll_name, site_name}, proofs.Names.{roll-no-site}}

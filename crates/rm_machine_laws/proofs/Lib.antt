@@ -7,27 +7,25 @@ mod AtHand
 mod BackingUp
 mod BackingUpLogs
 mod Beside
+mod Bitmaps
 mod BranchesSound
 mod Branching
-mod Cataloguing
-mod Bitmaps
 pub mod Carried
+mod Cataloguing
 mod Choosing
 mod Cleared
 mod Corrupting
 mod CountedLogs
 pub mod Creating
-mod Current
-mod DamagedLists
 mod DamagedRows
+pub mod DatedLines
+pub mod DatedRefusals
 mod Deleting
 mod DeletingObsolete
 mod Disabling
-mod Mended
-mod Mishaps
 pub mod Dropping
-pub mod Every
 mod Enabling
+pub mod Every
 mod Exchanging
 mod Found
 pub mod Founding
@@ -35,8 +33,8 @@ mod FreshLogs
 mod Further
 mod Gaps
 mod Grown
-mod Increments
 pub mod Halting
+mod Increments
 pub mod Leading
 mod LooseBackup
 mod LooseCopies
@@ -46,8 +44,10 @@ mod LooseQuiet
 mod LooseUpkeep
 mod Loosening
 mod Losing
-pub mod LowNames
 mod LosingLog
+pub mod LowNames
+mod Mended
+mod Mishaps
 mod Mounting
 mod NewObjects
 mod OldCopies
@@ -55,6 +55,7 @@ mod OnBranches
 mod Opened
 mod Opening
 mod Pieces
+pub mod PlainLines
 mod Quiet
 mod Recording
 mod Recovered

@@ -2,15 +2,15 @@
 use Rattle.std.proofs.Common.{◌≡◌, ◌≢◌, ◌<◌, ◌-◌, ◌∙◌, ◌==◌, not, filter, inl, inr, ℕ, List, Option, Bool, Some, None, true, false, is_none, refl, ap, sym, arith, slice_get, slice_set}
 use Rattle.std.proofs.lemmas.{Bool.{eq-eqb, ne_eqb, not-true}, List.{length-set, Elements.{All-contains, All-weaker}}}
 use Rattle.rm_base.{specs.{Store.{Held}, declared.block.{BlockId.{BlockId}, Change.{Change}, Row.{Row}}}, proofs.Lists.{filter_from}}
-use Rattle.rm_base.proofs.{Conditions.{not-none, unless}, Slots.{get-set, index-set}}
+use Rattle.rm_base.proofs.{Conditions.{not-none, unless}, Slots.{get-set, index-set}, Standing.{each-in}}
 use Rattle.rm_blocks.specs.File.{File}
 use Rattle.rm_lang_statement.specs.declared.command.Command.TheVariants.{LoseDatafile}
 use Rattle.rm_history.{specs.State.{state}, proofs.Worlds.{file-there}}
 use Rattle.rm_machine.specs.{Damage.{AreDamaged, IsInPlace, has_block}, Effect.{Made}, LoseDatafile.{lose_refusal, without_file}}
 use Rattle.rm_machine.specs.{Machine.{HistoryFits, IsBorneOut}, Sound.{IsSound}, State.{current_of, now_of, on_path, placed, world}}
-use Rattle.rm_machine.{specs.declared.state.State.{State}, proofs.{Damaged.{damaged-filtered, set-other, with_list}, Standing.{each-in}}}
-use Rattle.rm_machine.proofs.{Places.{placed-is}, Tracked.{on-path, tracked-same}}
-use Rattle.rm_machine_laws.proofs.{DamagedLists.{block-stays, file-stays}, Leading.{LeadsOnBy, StaysBy}, Quiet.{quiet-on, quiet-stays}}
+use Rattle.rm_machine.{specs.declared.state.State.{State}, proofs.{Damaged.{damaged-filtered, set-other, with_list}, Places.{placed-is}}}
+use Rattle.rm_machine.proofs.{Tracked.{on-path, tracked-same}, DamagedLists.{block-stays, file-stays}}
+use Rattle.rm_machine_laws.proofs.{Leading.{LeadsOnBy, StaysBy}, Quiet.{quiet-on, quiet-stays}}
 
 -- what is still there was there
 still : (place : List (Option File)) (m k : ℕ) (x : File) → slice_get (slice_set place m None) k ≡ Some (Some x) → slice_get place k ≡ Some (Some x)

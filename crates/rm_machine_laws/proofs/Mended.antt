@@ -8,17 +8,18 @@ use Rattle.rm_base.proofs.{Lists.{filter_from, filter_to}, Slots.{all-get, all-s
 use Rattle.rm_blocks.specs.File.{File, put}
 use Rattle.rm_history.{specs.State.{state}, proofs.Worlds.{file-there}}
 use Rattle.rm_lang_statement.specs.declared.command.WriteForm.{WriteForm}
-use Rattle.rm_live.specs.{History.{IsLegal, IsRight}, declared.history.{Answer.{Answer, TheVariants.{Found, Mended, Wrote}}, Call.{Call}}}
-use Rattle.rm_live.specs.{Touched.{is_mend_of, is_mended, is_touched, is_write_of}, declared.history.{Call.TheVariants.{Mend, Read, Write}, Event.{Event}}}
+use Rattle.rm_live.specs.{History.{IsLegal, IsRight}, Touched.{is_mend_of, is_mended, is_touched, is_write_of}}
+use Rattle.rm_live.specs.declared.history.{Answer.{Answer, TheVariants.{Found, Mended, Wrote}}, Call.{Call}}
+use Rattle.rm_live.specs.declared.history.{Call.TheVariants.{Mend, Read, Write}, Event.{Event}}
 use Rattle.rm_machine.specs.{Damage.{has_block}, Dump.{placed_row}, Effect.{Made}}
 use Rattle.rm_machine.specs.Events.{after_event, after_events, change_by, changes_of, opening, with_placed_row, write_form}
-use Rattle.rm_machine.specs.Machine.{HistoryFits, IsBorneOut, SoundRowsAre}
-use Rattle.rm_machine.specs.{Write.{change_of, with_write}, State.{current_of, now_of, placed, world}, declared.state.State.{State}}
+use Rattle.rm_machine.specs.{Machine.{HistoryFits, IsBorneOut, SoundRowsAre}, Write.{change_of, with_write}}
+use Rattle.rm_machine.specs.{State.{current_of, now_of, placed, world}, declared.state.State.{State}}
 use Rattle.rm_machine.proofs.{BackupAccepted.{CanBeWritten}, Damaged.{placed-put, placed-put_other, with_list}}
 use Rattle.rm_machine.proofs.{Mending.{AreDue, CanMend, IsDue, IsPatch, Patch, can-event, row_of}, Places.{placed-is}}
 use Rattle.rm_machine.proofs.{Putting.{sound-fewer, sound-put}, Walk.{CanGoOn, accepted, full, legal-on}, Writes.{Accepted}}
-use Rattle.rm_machine_laws.proofs.{DamagedLists.{any-fewer, same-block}, DamagedRows.{sound-agrees}, Writing.{borne-write}}
-use Rattle.rm_machine_laws.proofs.WritesKeep.{state-write}
+use Rattle.rm_machine.proofs.DamagedLists.{any-fewer, same-block}
+use Rattle.rm_machine_laws.proofs.{DamagedRows.{sound-agrees}, Writing.{borne-write}, WritesKeep.{state-write}}
 
 -- A block that is neither mended nor written
 

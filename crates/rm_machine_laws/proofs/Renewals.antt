@@ -2,8 +2,10 @@
 use Rattle.std.proofs.Common.{◌≡◌, ◌≢◌, ◌<◌, ◌≤◌, ◌-◌, ◌+◌, ◌∙◌, ◌++◌, ℕ, List, Option, Some, None, Bool, true, false, refl, ap, sym, subst, arith, slice_get, All, Contains}
 use Rattle.std.proofs.lemmas.{List.Elements.{All-contains}, Option.{same_Some, slice_get_within}}
 use Rattle.rm_base.{specs.{Store.{Held}, declared.{block.Change.{Change}, kinds.Kind.TheVariants.{Level1}}}, proofs.Sealing.{length-sealed}}
+use Rattle.rm_base.proofs.Standing.{each-in}
 use Rattle.rm_backup.specs.{Level1s.{IsReached, next}, Records.{pieces}, Renewed.{IsMerged, IsRenewed, TakesOver, copy_at}}
 use Rattle.rm_backup.{specs.declared.renewing.Renewed.{Renewed}, proofs.{AtHand.{copy_at_hand}, Chained.{reached_agrees, reached_valid}}}
+use Rattle.rm_backup.proofs.Merges.{EndsIn, IsLast, KeepsOn, last-merge, reached-keeps}
 use Rattle.rm_catalog.specs.{Objects.{IsTag}, Rules.{IsCatalog}, Trees.{nodes}, declared.record.{PieceEntry.{PieceEntry}, Record.{Record}}}
 use Rattle.rm_evidence.specs.{Available.{HasPieceObject}, Known.{FitsPiece}, Names.{roll_name, site_name}, Objects.{piece_entry}}
 use Rattle.rm_evidence.{specs.declared.evidence.Evidence.{Evidence}, proofs.{DatabaseWorlds.{is-tree}, Parts.{part-of}}}
@@ -19,8 +21,7 @@ use Rattle.rm_machine.specs.{Effect.{Effect, LeavesObjects, Made, a_piece, done}
 use Rattle.rm_machine.specs.{Names.{IsObjectName}, Recover.{recover_target}}
 use Rattle.rm_machine.specs.RecoverCopy.{AreRenewed, RenewsTo, after_copies, changed, copies_gone, renewed_refusal, renewing}
 use Rattle.rm_machine.specs.{Recovery.{IsAtHand, in_place}, Sound.{IsSound}, State.{ledger, tree, world}, declared.state.State.{State}}
-use Rattle.rm_machine.proofs.{Later.{borne-beside}, Merges.{EndsIn, IsLast, KeepsOn, last-merge, reached-keeps}}
-use Rattle.rm_machine.proofs.{Renewing.{CanRenew, CanRenewAll, CanRenewTo, copy-kind, ids-left, renewed-apart}, Standing.{each-in}}
+use Rattle.rm_machine.proofs.{Later.{borne-beside}, Renewing.{CanRenew, CanRenewAll, CanRenewTo, copy-kind, ids-left, renewed-apart}}
 use Rattle.rm_machine.proofs.Restoring.{entry-rows}
 use Rattle.rm_machine_laws.proofs.{Agreeing.{base-by, level1-by}, AtHand.{BackupFrom, from_copy, from_piece, from_set, level1-from}}
 use Rattle.rm_machine_laws.proofs.{BackingUpLogs.{done-of}, Deleting.{stand-without}, Leading.{LeadsOnBy, StaysBy}}

@@ -4,7 +4,7 @@ use Rattle.std.proofs.Common.{◌≡◌, ◌-◌, ◌∙◌, ◌++◌, ◌==◌,
 use Rattle.std.proofs.lemmas.{Bool.{and_from, and_parts, cases_Bool}, List.{append-nil, Elements.{All-contains, All-weaker}}}
 use Rattle.std.proofs.lemmas.Option.{slice_get-get_or}
 use Rattle.rm_base.specs.{Store.{Held}, declared.block.{BlockId.{BlockId}, Change.{Change}, Row.{Row}}}
-use Rattle.rm_base.proofs.{Lists.{any_fails, any_from, any_to, filter_from, filter_to, filter_none}, Slots.{all-get}}
+use Rattle.rm_base.proofs.{Lists.{any_fails, any_from, any_to, filter_from, filter_to, filter_none}, Slots.{all-get}, Standing.{each-in}}
 use Rattle.rm_blocks.specs.File.{File}
 use Rattle.rm_catalog_typed.{specs.TypedCatalog.{records_of}, proofs.{Valid.{typed_catalog-valid}, Records.{tree-told}}}
 use Rattle.rm_channel.specs.Made.{AreThese, deed}
@@ -24,10 +24,11 @@ use Rattle.rm_machine.specs.{State.{current_of, ledger, now_of, placed, world}, 
 use Rattle.rm_machine.proofs.{BackupMarks.{borne-marked, marked-same}, Damaged.{with_list}, Fitting.{place-fits}, Kept.{stand-same}}
 use Rattle.rm_machine.proofs.{Later.{borne-beside}, Mending.{AreDue, CanMend, Patch, can-events}, Places.{placed-is}, Putting.{sound-fewer}}
 use Rattle.rm_machine.proofs.{RepairAccepted.{CanRepair, can-repair}, Repaired.{marking}}
-use Rattle.rm_machine.proofs.{Repairs.{IsOfBlock, block-patched, due-front, due-mended, mended-due, patches, wanted}, Standing.{each-in}}
+use Rattle.rm_machine.proofs.Repairs.{IsOfBlock, block-patched, due-front, due-mended, mended-due, patches, wanted}
 use Rattle.rm_machine.proofs.{ToldRows.{CanStand, IsTargetNow, in-place-target, told-stand}, Walk.{CanGoOn, events-same}}
+use Rattle.rm_machine.proofs.DamagedLists.{any-fewer, is-block, same-block}
 use Rattle.rm_machine.proofs.Repaired as shared
-use Rattle.rm_machine_laws.proofs.{Agreeing.{evidence-agrees}, DamagedLists.{any-fewer, is-block, same-block}, Leading.{LeadsOnBy, StaysBy}}
+use Rattle.rm_machine_laws.proofs.{Agreeing.{evidence-agrees}, Leading.{LeadsOnBy, StaysBy}}
 use Rattle.rm_machine_laws.proofs.{Mended.{Knows, KnowsRows, knows-events, left, left-from, row-events}, Quiet.{landed, same-stays}}
 
 -- a front of legal events is legal

@@ -1,13 +1,13 @@
 -- The datafiles that what is at hand tells are those of the history.
 use Rattle.std.proofs.Common.{◌≡◌, ◌∙◌, ℕ, List, [], ◌∷◌, refl, ap, sym, subst, All, map}
 use Rattle.std.proofs.lemmas.List.Elements.{All-contains, All-head, All-tail}
-use Rattle.rm_base.{specs.declared.block.{Change.{Change}, Row.{Row}}, proofs.Lists.{map_to}}
+use Rattle.rm_base.{specs.declared.block.{Change.{Change}, Row.{Row}}, proofs.{Lists.{map_to}, Standing.{each-get, each-in}}}
 use Rattle.rm_blocks.specs.File.{File}
 use Rattle.rm_apply.{specs.Told.{AreFilesAt, IsTold}, proofs.States.{row-is, rows-are-states}}
 use Rattle.rm_history.specs.{History.{IsHistory}, State.{state, states}, World.{blocks_of}, Evidence.{Agrees, Evidence}}
 use Rattle.rm_history.specs.declared.world.World.{World}
 use Rattle.rm_plan.specs.Plan.{IsFileTarget}
-use Rattle.rm_machine.{specs.{Machine.{RowsAre}, Recovery.{AreMadeAt, file_at}}, proofs.{Placing.{number}, Standing.{each-get, each-in}}}
+use Rattle.rm_machine.{specs.{Machine.{RowsAre}, Recovery.{AreMadeAt, file_at}}, proofs.Placing.{number}}
 
 -- a datafile of the same fields
 same-file : (x : File) (i at : ℕ) (rows : List Row) → x.inc ≡ i → x.checkpoint ≡ at → x.rows ≡ rows → x ≡ record { file = x.file; inc = i; checkpoint = at; rows = rows }

@@ -7,14 +7,14 @@ use Rattle.rm_history.specs.{Agrees.{IsBelow}, State.{state}, World.{blocks_of}}
 use Rattle.rm_track.specs.Bits.{IsMarked, blocks_from}
 use Rattle.rm_track.specs.Bitmaps.{Tracked, candidates_at, candidates_of, joined, oldest, switch_at, switched, tracked_at, unmarked}
 use Rattle.rm_track.{specs.Told.{HasChange, IsChanged, IsStartFor, Tell, starts}, proofs.{Places.{found-same}, Telling.{candidates-found}}}
+use Rattle.rm_track.proofs.ReadBlocks.{blocks-marked, marked-block}
 use Rattle.rm_live.specs.Ruled.{upto}
 use Rattle.rm_catalog_typed.proofs.Trees.{parents_below}
 use Rattle.rm_lang_statement.specs.declared.command.BackupForm.{BackupForm}
 use Rattle.rm_machine.specs.{Asked.{blocks_read, candidates_in}, Backup.{AreJobs, rows_in, taken}, BackupOutcome.{begun}}
 use Rattle.rm_machine.specs.{Machine.{HistoryFits}, Sound.{IsSound}, Tracked.{AreTracked, IsTracked, switch_all, tracks, with_tracker}}
 use Rattle.rm_machine.specs.{State.{current_of, ledger, now_of, on_path, tree, world}, declared.{job.Job.{Job}, state.State.{State}}}
-use Rattle.rm_machine.proofs.{BackingUp.{IsNoCandidate}, ReadBlocks.{blocks-marked, marked-block}}
-use Rattle.rm_machine.proofs.{Tracked.{at-file, some-is, tracked-switch_all}, FirstTold.{lie-below}}
+use Rattle.rm_machine.proofs.{BackingUp.{IsNoCandidate}, Tracked.{at-file, some-is, tracked-switch_all}, FirstTold.{lie-below}}
 use Rattle.rm_machine_laws.{specs.Wanted.{HasChangedSince, IsReadByBitmaps}, proofs.Bitmaps.{not-wanted, tell-switch_all}}
 
 -- Where the current bitmap starts

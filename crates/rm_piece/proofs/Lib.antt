@@ -3,6 +3,7 @@ pub mod Filled
 pub mod Fitting
 pub mod Highs
 pub mod Picked
+pub mod PickedStates
 pub mod Risen
 pub mod SetBodies
 pub mod SetFitting

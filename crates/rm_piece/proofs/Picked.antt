@@ -1,6 +1,6 @@
 -- The rows of version at least `from` as a level 1.
 use Rattle.std.proofs.Common.{◌≡◌, ◌≢◌, ◌<◌, ◌≤◌, ◌∙◌, inl, inr, nat_le, ℕ, List, [], true, false, refl, sym, subst, arith, length, get_or, eqb, Contains}
-use Rattle.std.proofs.lemmas.{Bool.{cases_lt, eq-eqb, Decides.{nat_tests}}, List.{get_or_default, Elements.{All-contains}}}
+use Rattle.std.proofs.lemmas.{Bool.{cases_lt, eq-eqb, le-leb, leb-true}, List.{get_or_default, Elements.{All-contains}}}
 use Rattle.std.proofs.lemmas.List.{Folds.{list_any-from_Any}, Kept.{AllPairs-filter}}
 use Rattle.rm_base.specs.declared.{block.{Change.{Change}, Row.{Row}}, kinds.Kind.TheVariants.{Level1}}
 use Rattle.rm_base.proofs.Lists.{filter_from, filter_to}
@@ -9,12 +9,6 @@ use Rattle.rm_history.specs.declared.world.World.{World}
 use Rattle.rm_history.specs.Agrees as agrees
 use Rattle.rm_piece.specs.{Artefacts.{base_of, level1_of}, Level1s.{AreRead, IsRead, picked}, Rows.{from_on}}
 use Rattle.rm_piece.{specs.{Valid.{IsPiece, IsRow, IsBefore}, declared.piece.Piece.{Piece}}, proofs.Whole.{full, placed}}
-
-le_holds : (a b : ℕ) → nat_le a b ≡ true → a ≤ b
-le_holds a b h = grind (arith, nat_tests)
-
-le_true : (a b : ℕ) → a ≤ b → nat_le a b ≡ true
-le_true a b h = grind (arith, nat_tests)
 
 is_listed : (rows : List Row) (r : Row) (b : ℕ) → Contains rows r → r.block ≡ b → lists rows b ≡ true
 is_listed rows r b held same = list_any-from_Any (λ x. eqb x.block b) rows (held.0, r, held.1, held.2, eq-eqb r.block b same)
@@ -29,7 +23,7 @@ below_of w h i f c from b rows r is held same unlisted = elim (cases_lt r.versio
         below = subst (λ (n : ℕ). (state w h i is.position f n).version < from) same (subst (λ (x : Row). x.version < from) (sym is.is) below);
       }
   | inr above ↦
-      let there = is_listed (from_on from rows) r b (filter_to (λ x. nat_le from x.version) rows r held (le_true from r.version above)) same in
+      let there = is_listed (from_on from rows) r b (filter_to (λ x. nat_le from x.version) rows r held (le-leb from r.version above)) same in
       let both : true ≡ false = sym there ∙ unlisted in
       absurd (cc)
 ]
@@ -38,7 +32,7 @@ pub picked_agrees : (w : World) (h : List Change) (i f c from : ℕ) (rows : Lis
 picked_agrees w h i f c from rows are = record {
   listed = λ r held.
       let source = filter_from (λ x. nat_le from x.version) rows r held in
-      (are.read r source.0, le_holds from r.version source.1);
+      (are.read r source.0, leb-true from r.version source.1);
   unlisted = λ b inside unlisted. elim (are.others b inside) [
     | inl one ↦ below_of w h i f c from b rows one.row (are.read one.row one.held) one.held one.is unlisted
     | inr below ↦ below
@@ -74,6 +68,6 @@ picked_valid p from is some most = record {
       let e = get_or (from_on from p.rows) k d in
       let source = filter_from (λ r. nat_le from r.version) p.rows e (k, inside, get_or_default (from_on from p.rows) k e d inside) in
       let row = All-contains (IsRow p.blocks p.from) p.rows e is.rows source.0 in
-      record { block = row.block; version = row.version; from = le_holds from e.version source.1; content = row.content };
+      record { block = row.block; version = row.version; from = leb-true from e.version source.1; content = row.content };
   high = refl;
 }

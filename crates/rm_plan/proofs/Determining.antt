@@ -4,8 +4,10 @@ use Rattle.std.proofs.Common.{◌≡◌, ◌<◌, ◌≤◌, ◌⊎◌, ◌==◌
 use Rattle.std.proofs.lemmas.{Bool.{cases_Bool, cases_lt}, List.{get_or_default, Elements.{All-contains}}}
 use Rattle.rm_base.specs.{Content.{zero_block}, Numbers.{last_scn}, declared.block.{Block.{Block}, Change.{Change}, Row.{Row}}}
 use Rattle.rm_base.proofs.Lists.{any_from, any_to, map_from, map_to}
+use Rattle.rm_base.proofs.Tests.{and_from, and_to, counts_from, counts_to, eq_from, eq_to, exists_from, lt_false, lt_from, lt_true, not_from, not_to, or_first, or_from, or_second, within_from, within_to}
 use Rattle.rm_evidence.specs.{Known.{FitsLog, FitsPiece, FitsTree, known_of}, Database.{IsCreated, IsSoundWorld}}
 use Rattle.rm_evidence.specs.declared.evidence.Evidence.{Evidence}
+use Rattle.rm_evidence.proofs.Artefacts.{IsAmong, LogRow, PieceRow, change_from, change_to, change_of, row_from, row_to}
 use Rattle.rm_history.specs.{Agrees.{lists}, Artefacts.{Level1, Log}, Tree.{HasParentsBelow, IsThere, owner, reset_of}}
 use Rattle.rm_history.specs.{Threads.{IsEnabled, is_enabled}, World.{creation_of, file_of}, FirstGap.{HasGap, IsTarget}}
 use Rattle.rm_history.specs.Known.{Determined, HasLog, IsGreatest, Quiet, Seen, by_absence, by_creation, by_log, by_logs, by_row}
@@ -17,10 +19,7 @@ use Rattle.rm_plan.specs.Covers.{is_covered, is_unlisted, level1_covers, log_cov
 use Rattle.rm_plan.specs.Entries.{no_entry, entry_of, after_version, looked_on_way, after_own_row, after_counted_row, record_counts}
 use Rattle.rm_plan.specs.{Idle.{is_idle}, Plan.{NamesGap, Tells}, Spans.{lies_in}, Survey.{IsFirstUncovered, IsSurvey, astray_block}}
 use Rattle.rm_plan.specs.{Ways.{AreWays, IsWay, way_of}, declared.{entry.Entry.{Entry}, plan.Told.{Told}, survey.Survey.{Survey}}}
-use Rattle.rm_plan.specs.declared.span.Span.{Span}
-use Rattle.rm_plan.proofs.Artefacts.{IsAmong, LogRow, PieceRow, change_from, change_to, change_of, row_from, row_to}
-use Rattle.rm_plan.proofs.Conditions.{and_from, and_to, counts_from, counts_to, eq_from, eq_to, exists_from, lt_false, lt_from, lt_true, not_from, not_to, or_first, or_from, or_second, within_from, within_to}
-use Rattle.rm_plan.proofs.Parts.{within_file}
+use Rattle.rm_plan.{specs.declared.span.Span.{Span}, proofs.Parts.{within_file}}
 use Rattle.rm_plan.proofs.Steps.{Keeps, base_meets, entry_keeps, from_start, later_reaches, level1_meets, reach_lasts, record_meets, stray_lasts, version_lasts}
 use Rattle.rm_redo.specs.{LogFile.{log_of}, LogFormat.{IsLogRecord}, declared.{log_file.LogFile.{LogFile}, online.LogRecord.{LogRecord}}}
 

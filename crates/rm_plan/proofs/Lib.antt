@@ -1,7 +1,5 @@
 pub mod Agreeing
-pub mod Artefacts
 pub mod Chosen
-pub mod Conditions
 pub mod Determining
 pub mod Faults
 pub mod Firsts

@@ -5,7 +5,7 @@ use Rattle.std.proofs.lemmas.List.{drop_more, get_or-drop, get_or_append_left, g
 use Rattle.std.proofs.lemmas.List.{Folds.{list_any-append, list_any_at, list_any_none}, Quantifiers.{all_pairs_push}}
 use Rattle.std.proofs.lemmas.List.Sorted.{IsNonDecreasingBy-push}
 use Rattle.rm_plan.specs.{Spans.{lies_in, covers, AreApart, IsAscending, IsFirstOutside}, declared.span.Span.{Span}}
-use Rattle.rm_plan.proofs.Conditions.{or_false, or_first, or_second, within_not_below, within_not_past, within_to}
+use Rattle.rm_base.proofs.Tests.{or_false, or_first, or_second, within_not_below, within_not_past, within_to}
 
 -- nothing lies below spans that all start above it
 none_below : (spans : List Span) (g : ℕ) → ((k : ℕ) (d : Span) → k < length spans → g < (get_or spans k d).start) → covers spans g ≡ false

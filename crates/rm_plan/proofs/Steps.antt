@@ -2,11 +2,11 @@
 use Rattle.std.proofs.Common.{◌≡◌, ◌≤◌, ◌==◌, ◌||◌, inl, inr, ℕ, List, [], ◌∷◌, Bool, true, false, cond, fold, nat_lt, refl, sym, subst, arith, Contains}
 use Rattle.std.proofs.lemmas.Bool.Decides.{nat_tests}
 use Rattle.rm_base.{specs.declared.block.{Block.{Block}, Row.{Row}}, proofs.Members.{in-front, behind, none-in, first-or-rest}}
-use Rattle.rm_evidence.specs.declared.evidence.Evidence.{Evidence}
+use Rattle.rm_base.proofs.Tests.{eq_from, eq_to, or_first}
+use Rattle.rm_evidence.{specs.declared.evidence.Evidence.{Evidence}, proofs.Artefacts.{IsAmong}}
 use Rattle.rm_piece.specs.declared.piece.Piece.{Piece}
 use Rattle.rm_plan.specs.Entries.{entry_at_creation, after_version, after_counted_row, after_own_row, after_row, after_piece, after_pieces, looked_on_way, record_counts, after_record, entry_of}
-use Rattle.rm_plan.{specs.{Ways.{way_of}, declared.{entry.Entry.{Entry}, span.Span.{Span}}}, proofs.Artefacts.{IsAmong}}
-use Rattle.rm_plan.proofs.Conditions.{eq_from, eq_to, or_first}
+use Rattle.rm_plan.specs.{Ways.{way_of}, declared.{entry.Entry.{Entry}, span.Span.{Span}}}
 use Rattle.rm_redo.specs.declared.{log_file.LogFile.{LogFile}, online.LogRecord.{LogRecord}}
 
 -- a fold whose steps keep what is true

@@ -2,8 +2,8 @@
 use Rattle.std.{specs.List.{list_any}, proofs.Common.{◌≡◌, ◌<◌, ◌&&◌, ◌||◌, ℕ, suc, List, refl, sym, subst, get_or, All, Contains}}
 use Rattle.std.proofs.lemmas.List.Elements.{Contains-get_or}
 use Rattle.rm_catalog.{specs.{Rules.{IsCatalog}, Switches.{switches}, declared.record.Record.{Record}}, proofs.Switching.{switch-late}}
+use Rattle.rm_catalog.proofs.SwitchRules.{one-switch}
 use Rattle.rm_history.specs.declared.world.{Switch.{Switch}, World.{World}}
-use Rattle.rm_evidence.proofs.Switching.{one-switch}
 use Rattle.rm_plan.specs.{Covers.{log_covers, threads_cover}, Idle.{AreApart, is_idle}, declared.span.Span.{Span}}
 use Rattle.rm_redo.specs.declared.log_file.LogFile.{LogFile}
 

@@ -1,5 +1,6 @@
 pub mod Changes
+pub mod FurtherLogs
+pub mod Loaded
 pub mod LogBodies
 pub mod LogFitting
-pub mod Loaded
 pub mod Logs

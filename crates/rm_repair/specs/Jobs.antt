@@ -1,7 +1,7 @@
 -- The rows that mend blocks.
 use Rattle.std.specs.{Prelude.{◌≡◌, ◌==◌, ℕ, List, Contains, map}, List.{prefix_len}}
-use Rattle.rm_base.specs.declared.block.{BlockId.{BlockId}, Part.{Part}}
-use Rattle.rm_history.specs.{Evidence.{Evidence}, FirstGap.{IsBefore, IsDetermined}, declared.world.World.{World}}
+use Rattle.rm_base.specs.{BlockOrder.{IsBefore}, declared.block.{BlockId.{BlockId}, Part.{Part}}}
+use Rattle.rm_history.specs.{Evidence.{Evidence}, FirstGap.{IsDetermined}, declared.world.World.{World}}
 use Rattle.rm_plan.specs.{Blocks.{AreToldRows}, Chosen.{row_of}, declared.plan.PlanFault.{PlanFault}}
 use Rattle.rm_plan.specs.declared.plan.PlanFault.TheVariants as fault
 use Rattle.rm_repair.specs.declared.jobs.MendJob.{MendJob}
@@ -18,10 +18,6 @@ job_of f p = record { file = f; row = row_of p }
 pub record AreMendJobs (w : World) (e : Evidence) (i s : ℕ) (xs : List BlockId) (jobs : List MendJob) : Type 0 where
   pub files : map (λ j. j.file) jobs ≡ map (λ x. x.file) xs
   pub rows : AreToldRows w e i s xs (map (λ j. j.row) jobs)
-
--- the one before the other, by datafile and then by number
-abbrev pub AreInOrder : BlockId → BlockId → Type 0
-AreInOrder x y = IsBefore x.file x.block y.file y.block
 
 -- where the fault is a gap, each of the blocks before its own is determined
 abbrev pub IsLeastFault : World → Evidence → ℕ → ℕ → List BlockId → PlanFault → Type 0

@@ -1,10 +1,11 @@
 //! The rows that mend blocks, as the evidence tells them.
-ghost use Rattle.std.specs.Prelude.{◌≡◌, ◌++◌, All, AllPairs, IfErr, IfOk, List, map};
+ghost use Rattle.std.specs.Prelude.{◌≡◌, ◌++◌, All, IfErr, IfOk, List, map};
+ghost use Rattle.rm_base.specs.BlockOrder.{AscendByBlock};
 ghost use Rattle.rm_catalog.specs.{Rules.{HasDatabase}, Trees.{nodes}};
 ghost use Rattle.rm_evidence.specs.{Database.{world_of}, Known.{FitsTree, known_of}};
 ghost use Rattle.rm_history.specs.FirstGap.{IsTarget};
 ghost use Rattle.rm_plan.specs.{Blocks.{AreToldRows}, Chosen.{IsFaultOf, row_of}, Plan.{IsFileTarget}};
-ghost use Rattle.rm_repair.specs.Jobs.{AreInOrder, AreMendJobs, IsLeastFault, job_of, run_length};
+ghost use Rattle.rm_repair.specs.Jobs.{AreMendJobs, IsLeastFault, job_of, run_length};
 
 use rm_base::{BlockId, BlockNo, FileNo, IncNo, NoMemory, Part, Row, Scn};
 use rm_catalog::Catalog;
@@ -96,7 +97,7 @@ pub fn mend_jobs(
     requires there { All (λ x. IsTarget (world_of catalog.now) i s x.file x.block) blocks.now }
     ensures jobs { IfOk result (λ v. AreMendJobs (world_of catalog.now) (known_of evidence.now) i s blocks.now v.items) }
     ensures gap { IfErr result (λ x. IsFaultOf (world_of catalog.now) (known_of evidence.now) i s blocks.now x) }
-    ensures least { AllPairs AreInOrder blocks.now → IfErr result (IsLeastFault (world_of catalog.now) (known_of evidence.now) i s blocks.now) }
+    ensures least { AscendByBlock blocks.now → IfErr result (IsLeastFault (world_of catalog.now) (known_of evidence.now) i s blocks.now) }
 {
     let mut jobs = Vec::new(alloc);
     let mut left = blocks;

@@ -10,6 +10,7 @@ use Rattle.rm_evidence.specs.{Available.{HasPieceObject, HasSetObject}, Database
 use Rattle.rm_evidence.specs.{Gathered.{IsGathered, IsPieceAmong, IsBaseOf, IsLevel1Of, IsLogOf, placed, placed_piece}, Known.{known_of}}
 use Rattle.rm_evidence.specs.{Names.{piece_name, set_name}, Objects.{IsSetObject}, declared.evidence.Evidence.{Evidence}}
 use Rattle.rm_evidence.{specs.declared.evidence.InPlace.{InPlace}, proofs.Parts.{part-of}}
+use Rattle.rm_evidence.proofs.Going.{seen, IsOfGone, named_had, named_seen, named_stays}
 use Rattle.rm_history.specs.{Artefacts.{Base, Level1, Log}, declared.world.World.{World}}
 use Rattle.rm_piece.specs.{Artefacts.{base_of, level1_of}, Sets.{IsMember}, Valid.{IsPiece}, declared.{piece.Piece.{Piece}, set.Set.{Set}}}
 use Rattle.rm_piece.specs.declared.set.SetFile.{SetFile}
@@ -17,7 +18,7 @@ use Rattle.rm_redo.specs.{LogFile.{log_of}, declared.log_file.LogFile.{LogFile}}
 use Rattle.rm_retain.specs.{Chosen.{Retention}, Obsolete.{IsNeedlessBackup, IsNeedlessLog}}
 use Rattle.rm_retain.specs.Catalogued.{backup_of, backup_in, backups_of, copies_in}
 use Rattle.rm_retain.specs.{Losing.{Describes, IsWhole, HasCopy, IsGone, LosesNeedless}, Cleared.{IsCleared}}
-use Rattle.rm_retain.{specs.declared.copies.Backup.{Backup}, proofs.Artefacts.{seen, IsOfGone, named_had, named_seen, named_stays}}
+use Rattle.rm_retain.specs.declared.copies.Backup.{Backup}
 
 -- a piece that a needless record describes
 pub record PieceGone (r : Retention) (id : ℕ) (a : Piece) : Type 0 where
@@ -40,9 +41,6 @@ placed_base d e files x held =
     let here : base_of (placed_piece e t.item) ≡ base_of x.1 = ap base_of t.is ∙ ap (λ (y : ℕ × Piece). base_of y.1) s.is in
     subst (Contains (seen base_of (placed (map (placed_piece e) files)))) here
     (map_to (λ (y : ℕ × Piece). base_of y.1) (placed (map (placed_piece e) files)) (0, placed_piece e t.item) (map_to (λ (a : Piece). (0, a)) (map (placed_piece e) files) (placed_piece e t.item) (map_to (placed_piece e) files t.item t.held)))
-
-pub placed_number : (xs : List Piece) (x : ℕ × Piece) → Contains (placed xs) x → x.0 ≡ 0
-placed_number xs x held = let s = map_from (λ (a : Piece). (0, a)) xs x held in sym (ap (λ (y : ℕ × Piece). y.0) s.is)
 
 pub same_backup : (x y : Backup) → x.id ≡ y.id → x.inc ≡ y.inc → x.file ≡ y.file → x.checkpoint ≡ y.checkpoint → x.high ≡ y.high → x ≡ y
 same_backup x y id inc file checkpoint high =
@@ -127,19 +125,15 @@ module _ (held now : Held) (rs left : List Record) (r : Retention) (cleared : Is
       let from = filter_from (λ (y : ℕ × Piece). nat_lt 0 y.0) old.bases s.item s.held in
       let some = ltb-true 0 s.item.0 from.1 in
       let first = placed (map (placed_piece (dbid_in rs)) place.files) in
-      elim (Contains-append_cases first before.bases.rest s.item (subst (λ (xs : List (ℕ × Piece)). Contains xs s.item) before.bases.list from.0)) [
-        | inl in_place ↦ let none = placed_number (map (placed_piece (dbid_in rs)) place.files) s.item in_place in absurd (omega (arith, some, none))
-        | inr named ↦
-            let is = (before.bases.exact s.item.0 s.item.1).0 named in
-            elim (base_stays s.item.0 s.item.1 is) [
-              | inl stay ↦ inl (record {
-                copy = base_of s.item.1;
-                held = named_seen base_of first (placed (map (placed_piece (dbid_in left)) place.files)) old.bases new.bases (IsBaseOf held rs) (IsBaseOf now left) before.bases after.bases s.item.0 s.item.1 stay;
-                described = subst (λ (y : Backup). Describes y s.item.1.inc s.item.1.file s.item.1.checkpoint s.item.1.rows) s.is (described s.item.0 s.item.1 (piece_valid held (database_in rs) rs s.item.0 s.item.1 is.0));
-                whole = whole s.item from.0 some;
-              })
-              | inr gone ↦ inr (subst (IsNeedlessBackup r) s.is gone.needless)
-            ]
+      let is = base-recorded held rs place old before s.item.0 s.item.1 some from.0 in
+      elim (base_stays s.item.0 s.item.1 is) [
+        | inl stay ↦ inl (record {
+          copy = base_of s.item.1;
+          held = named_seen base_of first (placed (map (placed_piece (dbid_in left)) place.files)) old.bases new.bases (IsBaseOf held rs) (IsBaseOf now left) before.bases after.bases s.item.0 s.item.1 stay;
+          described = subst (λ (y : Backup). Describes y s.item.1.inc s.item.1.file s.item.1.checkpoint s.item.1.rows) s.is (described s.item.0 s.item.1 (piece_valid held (database_in rs) rs s.item.0 s.item.1 is.0));
+          whole = whole s.item from.0 some;
+        })
+        | inr gone ↦ inr (subst (IsNeedlessBackup r) s.is gone.needless)
       ]
 
   is_gone : (id : ℕ) (a : Piece) → PieceGone r id a → IsGone r a.inc a.file a.checkpoint a.rows

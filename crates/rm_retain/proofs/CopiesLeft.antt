@@ -6,15 +6,15 @@ use Rattle.rm_base.specs.{Store.{Held}, declared.kinds.Policy.{Policy}}
 use Rattle.rm_base.proofs.Lists.{filter_from, filter_to, map_from, map_to, pairs-append, pairs-head, pairs-tail}
 use Rattle.rm_catalog.specs.declared.record.Record.{Record}
 use Rattle.rm_catalog.specs.declared.record.Record.TheVariants as records
-use Rattle.rm_evidence.specs.Gathered.{ByIdAndFile, IsGathered, IsBaseOf, placed, placed_piece}
-use Rattle.rm_evidence.specs.{Database.{current_in, database_in, dbid_in, world_of}, declared.evidence.Evidence.{Evidence}}
-use Rattle.rm_evidence.{specs.declared.evidence.InPlace.{InPlace}, proofs.Extending.{only-in}}
+use Rattle.rm_evidence.specs.Gathered.{ByIdAndFile, IsGathered, IsBaseOf}
+use Rattle.rm_evidence.specs.{Database.{current_in, database_in, world_of}, declared.evidence.Evidence.{Evidence}}
+use Rattle.rm_evidence.{specs.declared.evidence.InPlace.{InPlace}, proofs.{Backups.{backups-ascend, base-gathered, base-recorded}, Extending.{only-in}}}
 use Rattle.rm_history.specs.declared.world.World.{World}
 use Rattle.rm_piece.specs.declared.piece.Piece.{Piece}
 use Rattle.rm_retain.specs.{Chosen.{Retention, Ascend}, Obsolete.{IsNeedlessBackup}}
 use Rattle.rm_retain.specs.{Catalogued.{backup_of, backup_in, backups_of, copies_in, by_records, IsObsoleteRecord}, Cleared.{IsCleared}}
-use Rattle.rm_retain.{specs.{Remaining.{AreRemaining, with_copies}, declared.copies.Backup.{Backup}}, proofs.Ranks.{IsEarlier, none_kept}}
-use Rattle.rm_retain.proofs.{Clearing.{base_had, base_stays, placed_number}, SecondTime.{backup_again, log_again}}
+use Rattle.rm_retain.{specs.{Remaining.{AreRemaining, with_copies}, declared.copies.Backup.{Backup}}, proofs.Ranks.{IsEarlier}}
+use Rattle.rm_retain.proofs.{Clearing.{base_had, base_stays}, SecondTime.{backup_again, log_again}}
 
 ascend_copies : (xs : List (ℕ × Piece)) → AllPairs ByIdAndFile xs → Ascend (map backup_of xs)
 ascend_copies [] ascend = λ i j d less inside. absurd (omega arith)
@@ -26,21 +26,13 @@ ascend_copies (x ∷ xs) ascend =
 
 -- copies that are gathered ascend
 pub gathered_ascend : (held : Held) (rs : List Record) (place : InPlace) (e : Evidence) → IsGathered held rs place e → Ascend (copies_in e)
-gathered_ascend held rs place e gathered =
-    let p : (ℕ × Piece) → Bool = λ x. nat_lt 0 x.0 in
-    let files = map (placed_piece (dbid_in rs)) place.files in
-    let rest = gathered.bases.rest in
-    let none : filter p (placed files) ≡ [] = none_kept p (placed files) (λ x in_place passes. let some = ltb-true 0 x.0 passes in let zero_is = placed_number files x in_place in absurd (omega (arith, some, zero_is))) in
-    let list : filter p e.bases ≡ filter p rest = ap (filter p) gathered.bases.list ∙ filter-append p (placed files) rest ∙ ap (λ (xs : List (ℕ × Piece)). xs ++ filter p rest) none in
-    subst (λ (xs : List (ℕ × Piece)). Ascend (map backup_of xs)) (sym list) (ascend_copies (filter p rest) (AllPairs-filter ByIdAndFile p rest gathered.bases.ascends))
+gathered_ascend held rs place e gathered = ascend_copies (filter (λ x. nat_lt 0 x.0) e.bases) (backups-ascend held rs place e gathered)
 
 -- a copy of a record, among those gathered
 named_copy : (held : Held) (rs : List Record) (place : InPlace) (e : Evidence) → IsGathered held rs place e → (id : ℕ) (a : Piece) → 0 < id → IsBaseOf held rs id a → Contains (copies_in e) (backup_of (id, a))
 named_copy held rs place e gathered id a some is =
     let p : (ℕ × Piece) → Bool = λ x. nat_lt 0 x.0 in
-    let first = placed (map (placed_piece (dbid_in rs)) place.files) in
-    let at : Contains e.bases (id, a) = subst (λ (xs : List (ℕ × Piece)). Contains xs (id, a)) (sym gathered.bases.list) (Contains-append_right first gathered.bases.rest (id, a) ((gathered.bases.exact id a).1 is)) in
-    map_to backup_of (filter p e.bases) (id, a) (filter_to p e.bases (id, a) at (lt-ltb 0 id some))
+    map_to backup_of (filter p e.bases) (id, a) (filter_to p e.bases (id, a) (base-gathered held rs place e gathered id a is) (lt-ltb 0 id some))
 
 -- and the other way round
 pub record CopyOf (held : Held) (rs : List Record) (x : Backup) : Type 0 where
@@ -53,14 +45,10 @@ pub record CopyOf (held : Held) (rs : List Record) (x : Backup) : Type 0 where
 copy_named : (held : Held) (rs : List Record) (place : InPlace) (e : Evidence) → IsGathered held rs place e → (x : Backup) → Contains (copies_in e) x → CopyOf held rs x
 copy_named held rs place e gathered x in_copies =
     let p : (ℕ × Piece) → Bool = λ y. nat_lt 0 y.0 in
-    let files = map (placed_piece (dbid_in rs)) place.files in
     let s = map_from backup_of (filter p e.bases) x in_copies in
     let from = filter_from p e.bases s.item s.held in
     let some = ltb-true 0 s.item.0 from.1 in
-    elim (Contains-append_cases (placed files) gathered.bases.rest s.item (subst (λ (xs : List (ℕ × Piece)). Contains xs s.item) gathered.bases.list from.0)) [
-      | inl in_place ↦ let none = placed_number files s.item in_place in absurd (omega (arith, some, none))
-      | inr rest ↦ record { id = s.item.0; piece = s.item.1; some = some; base = (gathered.bases.exact s.item.0 s.item.1).0 rest; is = s.is }
-    ]
+    record { id = s.item.0; piece = s.item.1; some = some; base = base-recorded held rs place e gathered s.item.0 s.item.1 some from.0; is = s.is }
 
 module _ (held now : Held) (rs left : List Record) (place : InPlace) (old new : Evidence) (policy : Policy) (start : ℕ) (before : IsGathered held rs place old) (after : IsGathered now left place new) (cleared : IsCleared (by_records rs old policy start) rs left held now) (same : database_in left ≡ database_in rs) where
   copies_left : AreRemaining (by_records rs old policy start) (copies_in new)

@@ -1,5 +1,4 @@
 pub mod AboveFloor
-pub mod Artefacts
 pub mod ByAge
 pub mod Clearing
 pub mod CopiesLeft
@@ -10,7 +9,6 @@ pub mod Ids
 pub mod Needed
 pub mod Ranks
 pub mod Safe
-pub mod Searched
 pub mod SecondTime
 pub mod StaysTold
 pub mod Taking

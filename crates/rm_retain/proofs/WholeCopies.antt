@@ -6,14 +6,15 @@ use Rattle.rm_base.specs.{Content.{zero_block}, Store.{Held}, declared.{block.Ro
 use Rattle.rm_base.specs.declared.kinds.Kind.TheVariants.{Full, Level0, Level1, Place}
 use Rattle.rm_catalog.specs.{Keys.{datafile}, Objects.{FitsRows, FitsDatafile, PieceRule}, Rules.{IsCatalog}}
 use Rattle.rm_catalog.specs.declared.record.{DatafileEntry.{DatafileEntry}, PieceEntry.{PieceEntry}, Record.{Record}}
+use Rattle.rm_catalog.proofs.Numbering.{obeys}
 use Rattle.rm_catalog.specs.declared.record.Record.TheVariants as records
 use Rattle.rm_evidence.specs.{Gathered.{IsGathered, IsPieceAmong, placed, placed_piece}, Objects.{IsAsCreated}}
 use Rattle.rm_evidence.specs.{Database.{created_by, database_in, dbid_in, world_of}, declared.evidence.Evidence.{Evidence}}
-use Rattle.rm_evidence.{specs.declared.evidence.InPlace.{InPlace}, proofs.{Files.{file_of-is}, Found.{obeys}, Parts.{file-at}}}
+use Rattle.rm_evidence.{specs.declared.evidence.InPlace.{InPlace}, proofs.{Files.{file_of-is}, Parts.{file-at}}}
 use Rattle.rm_history.specs.{World.{blocks_of}, declared.world.{Datafile.{Datafile}, World.{World}}}
 use Rattle.rm_piece.specs.{Artefacts.{base_of}, Sets.{IsMember}, Valid.{IsPiece}, declared.{piece.Piece.{Piece}, set.SetFile.{SetFile}}}
 use Rattle.rm_piece.proofs.Whole.{full, placed as rows_placed}
-use Rattle.rm_retain.{specs.Losing.{IsWhole}, proofs.Clearing.{piece_valid, placed_number}}
+use Rattle.rm_retain.{specs.Losing.{IsWhole}, proofs.Clearing.{piece_valid}}
 
 entry_all : (k : Kind) (rows blocks : ℕ) → k ≢ Level1 → FitsRows k rows blocks → rows ≡ blocks
 entry_all Full rows blocks other fits = fits
@@ -68,10 +69,5 @@ HasWholeCopies rs e = (x : ℕ × Piece) → Contains e.bases x → 0 < x.0 → 
 
 pub copies_whole : (held : Held) (rs : List Record) (place : InPlace) (e : Evidence) → IsCatalog rs → IsGathered held rs place e → HasWholeCopies rs e
 copies_whole held rs place e catalog gathered x at some =
-    let first = placed (map (placed_piece (dbid_in rs)) place.files) in
-    elim (Contains-append_cases first gathered.bases.rest x (subst (λ (xs : List (ℕ × Piece)). Contains xs x) gathered.bases.list at)) [
-      | inl in_place ↦ let none = placed_number (map (placed_piece (dbid_in rs)) place.files) x in_place in absurd (omega (arith, some, none))
-      | inr named ↦
-          let is = (gathered.bases.exact x.0 x.1).0 named in
-          base_whole (world_of rs) x.1 (piece_valid held (database_in rs) rs x.0 x.1 is.0) is.1 (base_blocks held rs x.0 x.1 catalog is.1 is.0)
-    ]
+    let is = base-recorded held rs place e gathered x.0 x.1 some at in
+    base_whole (world_of rs) x.1 (piece_valid held (database_in rs) rs x.0 x.1 is.0) is.1 (base_blocks held rs x.0 x.1 catalog is.1 is.0)

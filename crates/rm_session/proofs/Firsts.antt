@@ -3,7 +3,8 @@ use Rattle.std.proofs.Common.{◌==◌, ◌+◌, ℕ, List, [], ◌∷◌, Optio
 use Rattle.std.proofs.lemmas.List.Elements.{All-head, All-map, All-tail, All-weaker}
 use Rattle.rm_catalog_typed.specs.Ledger.{Ledger}
 use Rattle.rm_history.specs.Tree.{IsThere}
-use Rattle.rm_machine.{specs.Loading.{inc_of_first, where_of}, proofs.Standing.{each-get}}
+use Rattle.rm_machine.specs.Loading.{inc_of_first, where_of}
+use Rattle.rm_base.proofs.Standing.{each-get}
 use Rattle.rm_redo.specs.{LogFormat.{IsLogFile}, declared.log_file.LogFile.{LogFile}}
 use Rattle.rm_session.specs.Fit.{AllAt, IsFitLog, LogFitsAt}
 

@@ -1,7 +1,7 @@
 -- A part that is good is the artefact that was saved.
 use Rattle.std.proofs.Common.{◌≡◌, ◌<◌, ◌∙◌, ◌==◌, ◌&&◌, inl, inr, ℕ, List, Some, None, Bool, true, sym, subst, arith, Contains, find}
 use Rattle.std.proofs.lemmas.Bool.{and_parts, eqb-true}
-use Rattle.rm_base.specs.{Store.{Held}, declared.block.Change.{Change}}
+use Rattle.rm_base.{specs.{Store.{Held}, declared.block.Change.{Change}}, proofs.Searched.{found-in}}
 use Rattle.rm_catalog.specs.declared.record.PartEntry.{PartEntry}
 use Rattle.rm_history.specs.{Agrees.{BaseAgrees, LogAgrees}, declared.world.Datafile.{Datafile}}
 use Rattle.rm_catalog_typed.specs.{Ledger.{Ledger}, TypedCatalog.{Saved}, Worlds.{world_of}}
@@ -12,7 +12,6 @@ use Rattle.rm_redo.specs.{LogFile.{log_of}, LogFormat.{IsLogFile}, declared.log_
 use Rattle.rm_redo.proofs.LogFitting.{spelling_same as log_same}
 use Rattle.rm_redo.specs.LogFormat as log_format
 use Rattle.rm_machine.specs.{Effect.{Artefact, Made, a_log, a_piece, a_set}, Machine.{IsTrueArtefact, PieceAgrees}}
-use Rattle.rm_machine.proofs.Searched.{found-in}
 use Rattle.rm_machine.specs.{Rest.{HasPartArtefact, PartsTellFor}, Saved.{HasPart, IsGoodFile, IsGoodLog, IsOfPart, spelling_of}}
 
 module _ (l : Ledger) (h : List Change) (objects : Held) (made : List Made) (touched : List (List ℕ)) (site : Saved)

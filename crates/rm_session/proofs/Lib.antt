@@ -2,11 +2,8 @@ pub mod Adding
 pub mod Firsts
 pub mod GoodParts
 pub mod Goods
-pub mod Ids
 pub mod Loads
-pub mod Lost
 pub mod OneWay
-pub mod OnlineParts
 pub mod Orders
 pub mod PartsOf
 pub mod Places

@@ -2,12 +2,12 @@
 use Rattle.std.specs.{List.{cons_option}, Option.{option_map, option_map_or}}
 use Rattle.std.proofs.Common.{◌≡◌, ◌≢◌, ◌<◌, ◌≤◌, ◌+◌, ◌-◌, ◌∙◌, ◌++◌, ◌&&◌, not, inl, inr, ℕ, zero, suc, List, [], ◌∷◌, Option, Some, None, Bool, true, false, cond, refl, ap, sym, subst, arith, length, length-append, AllPairs, Contains, slice_get}
 use Rattle.std.proofs.lemmas.List.{Elements.{Contains-append_cases, Contains-append_left, Contains-append_right}, Kept.{AllPairs-cons}}
-use Rattle.rm_base.proofs.{Members.{behind, in-front, none-in, first-or-rest}, Lists.{pairs-append}}
+use Rattle.rm_base.proofs.{Members.{behind, in-front, none-in, first-or-rest}, Lists.{pairs-append}, Standing.{each-in}}
 use Rattle.rm_blocks.specs.File.{File}
 use Rattle.rm_evidence.specs.Gathered.{placed_piece}
 use Rattle.rm_machine.specs.{Saving.{SitePart, file_parts, log_parts, parts_of}, Sound.{IsSound}}
 use Rattle.rm_machine.{specs.{State.{ledger, counted, is_lost, is_online}, declared.state.State.{State}}, proofs.Fitting.{stands-valid}}
-use Rattle.rm_machine.proofs.{Standing.{each-in}, Threads.{online-parts, thread-in}}
+use Rattle.rm_machine.proofs.Threads.{online-parts, thread-in}
 use Rattle.rm_piece.specs.Valid.{IsPiece}
 use Rattle.rm_redo.specs.{Logs.{Logs}, Online.{IsThread}, declared.online.ThreadLog.{ThreadLog}}
 use Rattle.rm_session.specs.Adding.{part_of_file, part_of_thread}

@@ -2,7 +2,7 @@
 use Rattle.std.proofs.Common.{◌≡◌, ◌≢◌, ◌<◌, ◌+◌, ◌-◌, ◌∙◌, inl, inr, ℕ, List, [], Some, None, false, refl, ap, sym, subst, arith, Contains, slice_index_or}
 use Rattle.std.proofs.lemmas.List.Elements.{All-contains, Contains-append_cases, Contains-append_left, Contains-append_right}
 use Rattle.std.proofs.lemmas.Option.{slice_get_within}
-use Rattle.rm_base.{specs.declared.block.Change.{Change}, proofs.Slots.{index-get}}
+use Rattle.rm_base.{specs.declared.block.Change.{Change}, proofs.{Slots.{index-get}, Standing.{each-in}}}
 use Rattle.rm_commit.specs.{Names.{bytes_of, name_of}, declared.commit.Object.{Object}}
 use Rattle.rm_commit.proofs.Standing.{AreApart, each-stands, others-stay}
 use Rattle.rm_history.proofs.Highs.{high-least}
@@ -14,9 +14,9 @@ use Rattle.rm_machine.specs.{Marks.{lacks_ids}, Rest.{HasPartArtefact, HaveParts
 use Rattle.rm_machine.specs.Saved.{IsOfPart, spelling_of}
 use Rattle.rm_machine.specs.Saving.{IsSavedAs, SitePart, entry_of, made_of, object_of, parts_of, saved_of, with_ids, with_site}
 use Rattle.rm_machine.specs.{Sound.{IsSound}, State.{ledger, counted, placed, world}, declared.state.State.{State}}
-use Rattle.rm_machine.proofs.{Dropping.{no-site}, Kept.{StandOn, kept-on, stays-so}, LosingFits.{losing-fits}, Standing.{each-in}}
-use Rattle.rm_machine.proofs.Undamaged.{sound-undamaged}
-use Rattle.rm_session.proofs.{Ids.{ids-from, ids-pairs}, PartsOf.{IsOther, IsPartOf, file-valid, of_file, of_thread, part-of, parts-apart}}
+use Rattle.rm_machine.proofs.{Dropping.{no-site}, Kept.{StandOn, kept-on, stays-so}, LosingFits.{losing-fits}, Undamaged.{sound-undamaged}}
+use Rattle.rm_machine.proofs.PartIds.{ids-from, ids-pairs}
+use Rattle.rm_session.proofs.PartsOf.{IsOther, IsPartOf, file-valid, of_file, of_thread, part-of, parts-apart}
 use Rattle.rm_session.proofs.Sites.{ids-left, next_after, site-typed_catalog}
 
 abbrev pub objects_of : State → List Object

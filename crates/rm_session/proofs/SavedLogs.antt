@@ -2,7 +2,7 @@
 use Rattle.std.specs.{List.{list_any}, Option.{option_map_or}}
 use Rattle.std.proofs.Common.{◌≡◌, ◌<◌, ◌≤◌, ◌+◌, ◌-◌, ◌∙◌, ◌&&◌, ◌||◌, not, ℕ, zero, suc, List, [], ◌∷◌, Option, Some, None, Bool, true, false, cond, IsSomeAnd, refl, ap, sym, subst, arith, filter, length, map, replicate, All, Contains, slice_get}
 use Rattle.std.proofs.lemmas.{Bool.{eq-eqb, false≢true}, Option.{same_Some}}
-use Rattle.rm_base.{specs.{Store.{Held}, declared.block.Change.{Change}}, proofs.Lists.{filter_from, map_to}}
+use Rattle.rm_base.{specs.{Store.{Held}, declared.block.Change.{Change}}, proofs.{Lists.{filter_from, map_to}, Standing.{each-in}}}
 use Rattle.rm_catalog_typed.specs.Switches.{enabled_at, is_enabled_in}
 use Rattle.rm_history.specs.{Agrees.{LogAgrees, is_of}, History.{IsHistory}, Tree.{end_of}}
 use Rattle.rm_redo.specs.{LogFile.{log_of}, Logs.{Logs}}
@@ -11,7 +11,7 @@ use Rattle.rm_redo.specs.declared.{log_file.LogFile.{LogFile}, online.{LogRecord
 use Rattle.rm_machine.specs.{Loading.{AreLoadedLogs, IsTheOne, inc_of_first, online_of, where_of}, Machine.{HistoryFits}}
 use Rattle.rm_machine.specs.{Saved.{FitsOnline, IsGoodLog, IsOfBlock}, Saving.{a_log_kept, rested, saved_logs, saved_of}, Sound.{IsSound}}
 use Rattle.rm_machine.specs.{State.{has_lost, ledger, current_of, is_lost, now_of, online, redo_end, world}, declared.state.State.{State}}
-use Rattle.rm_machine.proofs.{LostLogs.{lost-none}, Numbers.{file-place}, Standing.{each-in}, Threads.{online-parts, thread-in}}
+use Rattle.rm_machine.proofs.{LostLogs.{lost-none}, Numbers.{file-place}, Threads.{online-parts, thread-in}}
 use Rattle.rm_session.{specs.Adding.{part_of_thread}, proofs.{PartsOf.{is-online}, SavedFiles.{HaveObjects}}}
 use Rattle.rm_session.proofs.SavedParts.{thread-found, thread-online}
 

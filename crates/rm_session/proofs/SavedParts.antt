@@ -5,10 +5,10 @@ use Rattle.rm_base.proofs.Lists.{find_cases, find_none}
 use Rattle.rm_blocks.specs.File.{File}
 use Rattle.rm_catalog.specs.declared.record.PartEntry.{PartEntry}
 use Rattle.rm_machine.specs.{Saved.{file_part, thread_part}, Saving.{SitePart, entry_of, object_of, parts_of, saved_of}, Sound.{IsSound}}
-use Rattle.rm_machine.specs.{State.{ledger, is_lost, is_online}, declared.state.State.{State}}
+use Rattle.rm_machine.{specs.{State.{ledger, is_lost, is_online}, declared.state.State.{State}}, proofs.PartIds.{ids-from, ids-to}}
 use Rattle.rm_redo.specs.{Online.{has_log}, declared.online.ThreadLog.{ThreadLog}}
-use Rattle.rm_session.{specs.Adding.{part_of_file, part_of_thread}, proofs.Ids.{ids-from, ids-to}}
-use Rattle.rm_session.proofs.{PartsOf.{IsPartOf, file-in, log-in, of_file, of_thread, part-of}, Resting.{objects_of}}
+use Rattle.rm_session.{specs.Adding.{part_of_file, part_of_thread}, proofs.PartsOf.{IsPartOf, file-in, log-in, of_file, of_thread, part-of}}
+use Rattle.rm_session.proofs.Resting.{objects_of}
 
 -- what a search finds is the entry of a part that passes
 pub record IsEntryFound (s : State) (test : PartEntry → Bool) (e : PartEntry) : Type 0 where

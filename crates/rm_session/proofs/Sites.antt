@@ -2,7 +2,7 @@
 use Rattle.std.specs.Option.{option_map_or}
 use Rattle.std.proofs.Common.{◌≡◌, ◌≢◌, Contains, ◌<◌, ◌≤◌, ◌+◌, ◌∙◌, ℕ, Option, Some, None, false, refl, ap, subst, arith, length}
 use Rattle.std.proofs.lemmas.{List.Elements.{All-contains}, Option.{slice_get_within}}
-use Rattle.rm_base.proofs.Sealing.{length-sealed}
+use Rattle.rm_base.proofs.{Sealing.{length-sealed}, Standing.{each-in}}
 use Rattle.rm_catalog.specs.declared.record.{BaseEntry.{BaseEntry}, HeadEntry.{HeadEntry}, LogEntry.{LogEntry}, PartEntry.{PartEntry}}
 use Rattle.rm_catalog.specs.declared.record.{PieceEntry.{PieceEntry}, SetEntry.{SetEntry}}
 use Rattle.rm_evidence.specs.Gathered.{placed_piece}
@@ -17,9 +17,9 @@ use Rattle.rm_catalog_typed.specs.{Changes.{with_base}, Facts.{AreApart, IsPartE
 use Rattle.rm_catalog_typed.{specs.TypedCatalog.{TypedCatalog, Saved}, proofs.{Changed.{saved_fits}, Fitted.{base_fits}}}
 use Rattle.rm_machine.specs.{Marks.{lacks_ids}, Saving.{SitePart, entry_of, head_of, object_of, parts_of, saved_of, with_ids, with_site}}
 use Rattle.rm_machine.specs.{Sound.{IsSound}, State.{ledger, counted, current_of, online}, declared.state.State.{State}}
-use Rattle.rm_machine.proofs.{Standing.{each-in}, Switching.{not-above}}
+use Rattle.rm_machine.proofs.{Switching.{not-above}, PartIds.{ids-from, ids-pairs}}
 use Rattle.rm_session.specs.{Adding.{no_parts, with_parts}, declared.site_parts.Parts.{Parts}}
-use Rattle.rm_session.proofs.{Adding.{parts-entries, parts-next, parts-objects}, Ids.{ids-from, ids-pairs}}
+use Rattle.rm_session.proofs.Adding.{parts-entries, parts-next, parts-objects}
 use Rattle.rm_session.proofs.PartsOf.{IsOther, IsPartOf, file-valid, of_file, of_thread, part-of, parts-apart, parts-few}
 
 -- the next id after a save

@@ -16,8 +16,8 @@ use Rattle.rm_machine.specs.Machine.{HistoryFits, IsSoundBy, IsSoundMachine, Mac
 use Rattle.rm_machine.specs.Rest.{HasPartArtefact, HaveParts, IsRestBorneOut, IsSoundRest, IsSoundRestBy, PartsTell, PartsTellFor, Rest, Wakes, catalog_in}
 use Rattle.rm_machine.specs.{Saved.{IsGoodFile, IsGoodLog}, Sound.{IsSound}}
 use Rattle.rm_machine.specs.{State.{has_lost, counted, current_of, is_lost, ledger, now_of, online, world}, declared.state.State.{State}}
-use Rattle.rm_machine.proofs.{FirstTold.{tell-first}, Places.{counted-closed, counted-open}}
-use Rattle.rm_session.proofs.{GoodParts.{file-agrees, log-agrees}, Lost.{lost-fits}, OnlineParts.{online-part}, RowsThere.{rows-are}}
+use Rattle.rm_machine.proofs.{FirstTold.{tell-first}, Places.{counted-closed, counted-open}, AllLost.{lost-fits}, OnlineParts.{online-part}}
+use Rattle.rm_session.proofs.{GoodParts.{file-agrees, log-agrees}, RowsThere.{rows-are}}
 
 -- what is loaded is there where its part is
 good-by : (Good : Piece → Type 0) (o : Option Piece) (x : File) → IsTheOne Good o → Some x ≡ option_map file_in o → (a : Piece) × Good a × (x ≡ file_in a)

@@ -1,13 +1,11 @@
 -- What a statement comes to that the state does not refuse.
 use Rattle.std.proofs.Common.{◌≡◌, ◌∙◌, Bool, true, false, Option, Some, None, Result, Ok, Err, IfOk, refl, ap, sym, subst}
-use Rattle.rm_base.specs.Store.{Held}
+use Rattle.rm_base.{specs.Store.{Held}, proofs.EveryStore.{nothing}}
 use Rattle.rm_lang_statement.specs.declared.command.Command.{Command}
-use Rattle.rm_machine.specs.{Comes.{IsAnswer, IsRefusedBy}, Hands.{Hands}, Laws.{only_tells}, Nature.{nature_of, tells}}
-use Rattle.rm_machine.specs.{Sound.{IsSound}, Step.{IsStatement, refusal_of}, declared.answer.Answer.TheVariants.{Done}}
-use Rattle.rm_machine.specs.declared.{handed.Handed.{Handed}, state.State.{State}, nature.Nature.TheVariants.{Changes}}
-use Rattle.rm_machine.proofs.EveryStore.{nothing}
-use Rattle.rm_machine_laws.proofs.{Asking.{change-asks}, Every.{every-stays}}
-use Rattle.rm_site.proofs.DatedLines.{change-dated}
+use Rattle.rm_machine.specs.{Comes.{IsAnswer, IsRefusedBy}, Hands.{Hands}, Laws.{only_tells}, Nature.{nature_of, tells}, Sound.{IsSound}}
+use Rattle.rm_machine.specs.{Step.{IsStatement, refusal_of}, declared.{answer.Answer.TheVariants.{Done}, handed.Handed.{Handed}}}
+use Rattle.rm_machine.specs.declared.{state.State.{State}, nature.Nature.TheVariants.{Changes}}
+use Rattle.rm_machine_laws.proofs.{Asking.{change-asks}, Every.{every-stays}, DatedLines.{change-dated}}
 
 -- what asks the store does not go by the state alone
 pub asks_store : {T E : Type 0} (r : Result T E) (b : Bool) (P : T → Type 0) → b ≡ false → IfOk r (λ x. b ≡ true → P x)

@@ -1,15 +1,14 @@
 -- How a statement comes out.
 use Rattle.std.{specs.Option.{option_map}, proofs.Common.{◌≡◌, ◌∙◌, ℕ, true, List, Option, Some, refl, ap, sym, subst}}
-use Rattle.rm_base.specs.{Store.{Held}, declared.refusal.Refusal.{Refusal}}
+use Rattle.rm_base.{specs.{Store.{Held}, declared.refusal.Refusal.{Refusal}}, proofs.Both.{both-told}}
 use Rattle.rm_catalog.specs.{Edits.{after_edits}, declared.record.Record.{Record}}
 use Rattle.rm_commit.specs.{Carrying.{AreMoved, Carried}, Names.{HasPuts, HasRemoves}, declared.commit.Commit.{Commit}}
-use Rattle.rm_commit.proofs.Told.{both-told}
 use Rattle.rm_lang_statement.specs.declared.command.Command.{Command}
-use Rattle.rm_machine.specs.{Effect.{done, refused, told}, Nature.{nature_of}, declared.state.State.{State}}
+use Rattle.rm_machine.specs.{Effect.{done, refused, told}, Nature.{by_state, nature_of}, declared.state.State.{State}}
 use Rattle.rm_machine_laws.specs.{Carries.{IsHanded, IsOutcomeIn}, Holds.{View, records_in}, Moments.{moment_of}}
 use Rattle.rm_machine_laws.proofs.Carried.{same-puts}
 use Rattle.rm_report.specs.{Reply.{refused_by, said}, declared.line.{Line.{Line}, Reply.{Reply}}}
-use Rattle.rm_site.specs.ComesOut.{ComesOut, by_state}
+use Rattle.rm_site.specs.ComesOut.{ComesOut}
 
 module _ (held : Option Held) (kept : Option (List Record)) (o : Option State) (c : Command) (moment : ℕ) where
   -- the records stay

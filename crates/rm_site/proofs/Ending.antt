@@ -1,11 +1,10 @@
 -- What a save of a database leaves, and what a stop leaves of it.
 use Rattle.std.specs.{Prelude.{is_none, MatchBool, Result, Ok, Err, OnOk, OnErr}, Option.{option_map}}
 use Rattle.std.proofs.Common.{◌≡◌, ◌∙◌, ◌++◌, ◌⊎◌, ◌&&◌, not, inl, inr, ℕ, Bool, List, [], Option, Some, None, true, false, refl, ap, sym, subst}
-use Rattle.rm_base.specs.Store.{Held}
+use Rattle.rm_base.{specs.Store.{Held}, proofs.Both.{both-map, both-told}}
 use Rattle.rm_catalog.specs.{Edits.{after_edits}, declared.record.Record.{Record}}
 use Rattle.rm_commit.specs.Carrying.{AreMoved, ArePut, Carried, Halted, after_the_edits, before_the_edits}
 use Rattle.rm_commit.specs.{Names.{SameBeyondPuts, HasPuts, HasRemoves, is_named, itself, name_of}, declared.commit.Commit.{Commit}}
-use Rattle.rm_commit.proofs.Told.{both-map, both-told}
 use Rattle.rm_catalog_typed.specs.TypedCatalog.{Saved, all_records, records_of}
 use Rattle.rm_evidence.{specs.Names.{roll_name}, proofs.Names.{roll-no-site}}
 use Rattle.rm_machine.specs.{Damage.{without_damaged}, Machine.{Machine}, Marks.{lacks_ids}, Rest.{Rest, at_rest, catalog_in}}

@@ -1,25 +1,12 @@
 -- How a statement comes out, whether or not a machine stands behind what the store and the keeper hold.
-use Rattle.std.specs.Prelude.{ℕ, ◌≡◌, Bool, true, false, Option, Some, List}
+use Rattle.std.specs.Prelude.{ℕ, ◌≡◌, true, Option, Some, List}
 use Rattle.rm_base.specs.Store.{Held}
 use Rattle.rm_catalog.specs.declared.record.Record.{Record}
 use Rattle.rm_lang_statement.specs.declared.command.Command.{Command}
-use Rattle.rm_machine.specs.{Effect.{LeavesObjects, Outcome, done, refused, told}, Nature.{nature_of}, Step.{and_drops}}
-use Rattle.rm_machine.specs.declared.{nature.Nature.{Nature}, state.State.{State}}
-use Rattle.rm_machine.specs.declared.nature.Nature.TheVariants.{Changes, ChangesByHeld, Mishap, Records, TellsHeld, TellsState, TestsHeld, TriesByHeld, Unbuilt}
+use Rattle.rm_machine.specs.{Effect.{LeavesObjects, Outcome, done, refused, told}, Nature.{by_state, nature_of}, Step.{and_drops}}
+use Rattle.rm_machine.specs.declared.state.State.{State}
 use Rattle.rm_machine_laws.specs.{Carries.{IsOutcomeIn}, Holds.{records_in}}
 use Rattle.rm_report.specs.{Reply.{refused_by, said}, declared.line.Reply.{Reply}}
-
--- it goes by the state alone, whatever the store has
-abbrev pub by_state : Nature → Bool
-by_state Unbuilt = false
-by_state TellsState = true
-by_state TellsHeld = false
-by_state TestsHeld = false
-by_state Changes = true
-by_state ChangesByHeld = false
-by_state TriesByHeld = false
-by_state Records = false
-by_state Mishap = false
 
 -- The outcome gives this reply, and leaves this database, or none.
 abbrev pub Gives : Option State → Outcome → Reply → Option State → Type 0

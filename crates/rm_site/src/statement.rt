@@ -4,9 +4,8 @@ ghost use Rattle.rm_base.specs.{Outside.{Rose}, Store.{Held}};
 ghost use Rattle.rm_commit.specs.declared.commit.Stop.TheVariants.{StoreFault, KeeperFault};
 ghost use Rattle.rm_catalog_typed.specs.Changes.{EditsFollow};
 ghost use Rattle.rm_machine.specs.{Built.{is_built}, Comes.{AnswersPlainly, ComesTo, DoesMore, HadIds, IsAnswer, IsRefusedBy}};
-ghost use Rattle.rm_machine.specs.{Nature.{nature_of}, Sound.{IsSound}, Step.{IsStatement, refusal_of}};
+ghost use Rattle.rm_machine.specs.{Nature.{by_state, nature_of}, Sound.{IsSound}, Step.{IsStatement, refusal_of}};
 ghost use Rattle.rm_machine.specs.declared.nature.Nature.TheVariants.{ChangesByHeld, TellsHeld, TestsHeld, TriesByHeld};
-ghost use Rattle.rm_site.specs.ComesOut.{by_state};
 
 use crate::changing::change;
 use crate::refusing::refusal_of;

@@ -1,25 +1,25 @@
 -- What a set holds of the states at its address it holds after a step.
 use Rattle.std.specs.{Prelude.{MatchBool}, Option.{option_map_or}}
 use Rattle.std.proofs.Common.{◌≡◌, ◌<◌, ◌≤◌, ◌-◌, ◌∙◌, ◌&&◌, ◌==◌, inl, inr, nat_le, nat_lt, ℕ, List, [], ◌∷◌, Option, Some, None, is_none, Bool, true, false, cond, refl, ap, sym, subst, arith, length, AllPairs, Contains}
-use Rattle.std.proofs.lemmas.{Bool.{and_parts, eqb-true, le-leb, leb-true, ltb-true}, Option.{slice_get_within}}
-use Rattle.std.proofs.lemmas.List.Elements.{All-contains}
+use Rattle.std.proofs.lemmas.{Bool.{and_parts, eqb-true, leb-true, ltb-true}, Option.{slice_get_within}, List.Elements.{All-contains}}
 use Rattle.rm_base.{specs.declared.{block.{Change.{Change}, Row.{Row}}, kinds.Kind.TheVariants.{Level1}}, proofs.Lists.{filter_from}}
+use Rattle.rm_base.proofs.Standing.{each-in}
 use Rattle.rm_history.specs.{Agrees.{IsRow as IsStateAfter}, Artefacts.{high_of}, History.{IsHistory}, State.{state, states}}
 use Rattle.rm_history.specs.{Tree.{IsThere, end_of, owner}, World.{blocks_of, creation_of, exists, file_of}}
-use Rattle.rm_history.{specs.declared.world.{Datafile.{Datafile}, World.{World}}, proofs.Highs.{high-bound, high-least}}
-use Rattle.rm_history.proofs.Worlds.{file-there}
+use Rattle.rm_history.{specs.declared.world.{Datafile.{Datafile}, World.{World}}, proofs.BlockRows.{row-read, row-there}}
+use Rattle.rm_history.proofs.{Highs.{high-bound, high-least}, KnownStates.{version-range}, Worlds.{file-there}}
 use Rattle.rm_catalog_typed.{specs.LedgerFacts.{AreIncarnations}, proofs.Trees.{own-at_end}}
 use Rattle.rm_piece.specs.{Level1s.{AreRead}, Rows.{from_on}, Sets.{IsMember}, Valid.{IsBefore, IsPiece, IsRow}}
 use Rattle.rm_piece.{specs.declared.{piece.Piece.{Piece}, set.{Set.{Set}, SetFile.{SetFile}}}, proofs.Picked.{picked_agrees}}
+use Rattle.rm_piece.proofs.PickedStates.{begin, picked-all, picked-begin, still-picked}
 use Rattle.rm_standby.specs.Standby.{IsTaken}
 use Rattle.rm_lang_statement.specs.declared.command.Command.{Command}
 use Rattle.rm_machine.specs.{Damage.{without_damaged}, Effect.{Artefact, a_piece}, Honest.{IsHonest}, Laws.{IsMomentOf}}
 use Rattle.rm_machine.specs.{Machine.{IsSoundMachine, IsTrueArtefact, Machine, PieceEndsWithin}, Marks.{lacks_ids}}
 use Rattle.rm_machine.specs.{Rest.{Rest, Wakes, at_rest, catalog_in}, Saving.{IsSavedAs, IsSavedBy}, Step.{IsStatement, names_in}}
-use Rattle.rm_machine.{specs.{State.{tree, world}, declared.state.State.{State}}, proofs.Standing.{each-in}}
+use Rattle.rm_machine.specs.{State.{tree, world}, declared.state.State.{State}}
 use Rattle.rm_machine_laws.specs.{Holds.{saved_in}, Moments.{IsMomentIn}, Saves.{IsEnded}, Stopped.{IsLeft, Stopped}}
 use Rattle.rm_standby_laws.{specs.Lasting.{HoldsIn, HoldsOf, IsHeld, RestsHeld, StaysHeld}, proofs.Growing.{Grows}}
-use Rattle.rm_standby_laws.proofs.Settled.{begin, picked-begin, row-read, row-there, still-picked, version-range}
 use Rattle.rm_standby_laws.proofs.Steps.{IsAfter, borne, grown, state-after, still-true}
 
 module _ (s t : State) (h k : List Change) (from : ℕ) (a : Set) (are : AreIncarnations (tree s)) (grows : Grows s t) (history : IsHistory (world s) h)
@@ -215,13 +215,8 @@ stays-since from m n c moment reply a well sound honest at step held = by m.stat
         subst (λ o. HoldsOf (catalog_in o) n.history (from_on from) a) (sym to.1)
         (holds-later s to.0 m.history n.history from a was.state.catalog.ledger.incarnations grows was.keeps.history still holds)
 
--- all rows are those of a version at or above 0
-all-picked : (rows : List Row) → from_on 0 rows ≡ rows
-all-picked [] = refl
-all-picked (r ∷ rs) = ap (λ t. cond t (r ∷ from_on 0 rs) (from_on 0 rs)) (le-leb 0 r.version (omega arith)) ∙ ap (λ xs. r ∷ xs) (all-picked rs)
-
 pub stays-whole : StaysHeld (λ rows. rows)
-stays-whole = subst StaysHeld (λ j rows. all-picked rows j) (stays-since 0)
+stays-whole = subst StaysHeld (λ j rows. picked-all rows j) (stays-since 0)
 
 -- what follows from the one and from the other
 pub either : (b : Bool) (P Q R : Type 0) → MatchBool b P Q → (P → R) → (Q → R) → R

@@ -2,6 +2,5 @@ pub mod Beginning
 pub mod EachStatement
 pub mod Growing
 pub mod Lasting
-pub mod Settled
 pub mod Standing
 pub mod Steps

@@ -10,10 +10,10 @@ use Rattle.rm_catalog_typed.proofs.Lookups.{item-at}
 use Rattle.rm_live.specs.Ruled.{upto}
 use Rattle.rm_machine.specs.{Asked.{candidates_in, span_of}, Backup.{rows_in}, Events.{opening, standing_in}, Sound.{IsSound}}
 use Rattle.rm_machine.specs.{Tracked.{switch_all}, State.{ledger, now_of}, declared.{job.Job.{Job}, state.State.{State}}}
-use Rattle.rm_machine.proofs.{PiecesRead.{blocks-by}, ReadBlocks.{candidates-long, known-by}, Tracked.{at-file}, WritersRoom.{file-found}}
-use Rattle.rm_step_backup.{specs.Copying.{AreCopiesOf, IsCopyOf, StartBelow, Stands}, proofs.Counted.{counted-rows}}
+use Rattle.rm_machine.proofs.{PiecesRead.{blocks-by}, Tracked.{at-file}, WritersRoom.{file-found}, Counted.{counted-rows}}
 use Rattle.rm_track.specs.{Bitmaps.{Tracked, switch_at, switched, tracked_at}, Bits.{IsBits, blocks_from, marks_of}}
-use Rattle.rm_track.{specs.declared.bits.Bits.{Bits}, proofs.Marks.{length-marks}}
+use Rattle.rm_track.{specs.declared.bits.Bits.{Bits}, proofs.{ReadBlocks.{candidates-long, known-by}, Marks.{length-marks}}}
+use Rattle.rm_step_backup.specs.Copying.{AreCopiesOf, IsCopyOf, StartBelow, Stands}
 
 -- Copies
 

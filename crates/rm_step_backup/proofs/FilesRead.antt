@@ -2,7 +2,7 @@
 use Rattle.std.proofs.Common.{◌≡◌, ◌≤◌, ◌<◌, ◌∙◌, ◌++◌, ℕ, zero, suc, List, [], ◌∷◌, Option, Some, None, All, inl, inr, min, ap, refl, sym, subst, arith, drop, length, map, take, take_all}
 use Rattle.std.proofs.lemmas.{Bool.{cases_lt}, List.{drop-map, drop_all, length-map, take-map}}
 use Rattle.std.proofs.lemmas.{List.Elements.{All-cons, All-head, All-nil, All-tail}, Simd.{map-map}}
-use Rattle.rm_base.specs.declared.block.Row.{Row}
+use Rattle.rm_base.{specs.declared.block.Row.{Row}, proofs.Filled.{filled-on}}
 use Rattle.rm_catalog_typed.specs.Ledger.{Ledger}
 use Rattle.rm_lang_statement.specs.declared.command.BackupForm.{BackupForm}
 use Rattle.rm_machine.specs.{Backup.{cut, grouped}, MadeObjects.{CanRecord, IsRecordable, Packed, alone, in_set, packed, packed_by}}
@@ -10,7 +10,6 @@ use Rattle.rm_machine.specs.{MadePieces.{Copied, copied}, MadeSets.{InSet, in_se
 use Rattle.rm_machine.{specs.declared.state.State.{State}, proofs.Groups.{cut-next}}
 use Rattle.rm_step_backup.specs.Making.{CanMake, IsValid, copied_of, files_of, made_by, made_of, member_of, packed_of, reads_by}
 use Rattle.rm_step_backup.specs.declared.{making.Made.{Made}, reading.{FileRead.{FileRead}, Read.{Read, TheVariants.{OfOne, OfSeveral}}}}
-use Rattle.rm_step_backup.proofs.Filled.{filled-on}
 
 -- Groups
 

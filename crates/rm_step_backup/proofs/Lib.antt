@@ -2,9 +2,7 @@ pub mod Archived
 pub mod Backed
 pub mod Begins
 pub mod Copying
-pub mod Counted
 mod FilesRead
-mod Filled
 pub mod Forms
 pub mod Increments
 pub mod LogBackups

@@ -4,6 +4,7 @@ use Rattle.std.proofs.Common.{◌≡◌, ◌≤◌, ◌<◌, ◌+◌, ◌∙◌,
 use Rattle.std.proofs.lemmas.{Bool.{ne_eqb}, List.{append-nil, Elements.{All-append, All-cons, All-contains, All-head, All-nil}}}
 use Rattle.std.proofs.lemmas.Option.{same_Some}
 use Rattle.rm_base.{specs.{Store.{Held}, declared.{kinds.Bad.{Bad}, refusal.Refusal.{Refusal}}}, proofs.Lists.{map_from}}
+use Rattle.rm_base.proofs.Standing.{each-in}
 use Rattle.rm_catalog.specs.declared.record.Edit.{Edit}
 use Rattle.rm_commit.specs.declared.commit.Object.{Object}
 use Rattle.rm_redo.specs.{LogFormat.{IsLogFile}, declared.log_file.LogFile.{LogFile}}
@@ -15,7 +16,7 @@ use Rattle.rm_machine.specs.BackupLogs.{copies_of, copies_refusal, copy_entry, c
 use Rattle.rm_machine.specs.{Effect.{Outcome, refused}, Hands.{Hands, Refuses}, Recovery.{skipped_lines}, Sound.{IsSound}, State.{ledger}}
 use Rattle.rm_machine.specs.declared.{handed.Handed.{Handed}, state.State.{State}}
 use Rattle.rm_machine.proofs.BackingUpLogs.{CanRecord, after_copies, can-next, can-record, copy-fits, copy-sound, room-for, room-next, with_copy}
-use Rattle.rm_machine.proofs.{Handing.{hands-by}, Left.{HasRoom}, Standing.{each-in}}
+use Rattle.rm_machine.proofs.{Handing.{hands-by}, Left.{HasRoom}}
 use Rattle.rm_step_backup.specs.{Logs.{AreRecorded, IsAll, IsRecorded}, declared.looking.Looked.{Looked}}
 
 -- the logs alone

@@ -4,7 +4,7 @@ use Rattle.std.proofs.lemmas.List.{get_or-map, length-map, Elements.{All-head, A
 use Rattle.rm_piece.specs.{Sets.{IsSet}, Valid.{IsPiece}, declared.set.SetFile.{SetFile}}
 use Rattle.rm_catalog_typed.specs.Ledger.{Ledger}
 use Rattle.rm_machine.specs.{MadeSets.{InSet, set_of, told_member}, declared.job.FileBackup.{FileBackup}}
-use Rattle.rm_step_backup.proofs.Filled.{filled-on}
+use Rattle.rm_base.proofs.Filled.{filled-on}
 
 -- its piece is valid
 abbrev IsValidIn : InSet → Type 0

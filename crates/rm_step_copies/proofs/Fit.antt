@@ -2,10 +2,10 @@
 use Rattle.std.specs.{Prelude.{IfSome, IsSomeAnd, option_and_then}, Option.{option_map}}
 use Rattle.std.proofs.Common.{◌≡◌, ◌≢◌, ◌==◌, ◌<◌, ◌≤◌, ◌-◌, ◌∙◌, inl, inr, ℕ, List, Option, Some, None, Bool, true, refl, ap, sym, subst, arith, length, slice_get, All, Contains}
 use Rattle.std.proofs.lemmas.{Bool.{eqb-true}, List.Elements.{All-contains}, Option.{same_Some}}
-use Rattle.rm_base.proofs.{Keyed.{same_item}, Lists.{find_cases}, Sealing.{length-sealed}}
+use Rattle.rm_base.proofs.{Keyed.{same_item}, Lists.{find_cases}, Sealing.{length-sealed}, Standing.{each-in}}
 use Rattle.rm_backup.specs.{Level1s.{IsReached, MayBeMerged, next}, Records.{piece, pieces}}
 use Rattle.rm_backup.specs.{Renewed.{IsMerged, IsRenewed, TakesOver, copy_at}, declared.renewing.Renewed.{Renewed}}
-use Rattle.rm_backup.proofs.Chained.{reached_valid}
+use Rattle.rm_backup.proofs.{Chained.{reached_valid}, Merges.{EndsIn, IsLast, KeepsOn, last-merge, reached-keeps}}
 use Rattle.rm_catalog.specs.{Keys.{piece_in, place, place_of}, Objects.{IsTag}, Trees.{nodes}, declared.record.PieceEntry.{PieceEntry}}
 use Rattle.rm_catalog.specs.declared.record.{Record.{Record}, SetEntry.{SetEntry}}
 use Rattle.rm_catalog.specs.declared.record.Record.TheVariants as kind
@@ -19,7 +19,6 @@ use Rattle.rm_merge.specs.Merge.{merged}
 use Rattle.rm_piece.{specs.{Spelling.{body_of}, Valid.{IsPiece}, declared.piece.Piece.{Piece}}, proofs.Bodies.{length-body}}
 use Rattle.rm_piece.proofs.Fitting.{few_rows, fits as fits-piece}
 use Rattle.rm_machine.specs.{RecoverCopy.{AreRenewed}, Sound.{IsSound}, State.{ledger, tree}, declared.state.State.{State}}
-use Rattle.rm_machine.proofs.{Standing.{each-in}, Merges.{EndsIn, IsLast, KeepsOn, last-merge, reached-keeps}}
 use Rattle.rm_machine.proofs.{Renewing.{copy-kind, renewed-apart}, Restoring.{entry-rows}}
 use Rattle.rm_step_copies.specs.Fit.{AreFit, CanRecord, IsFit, IsShort}
 

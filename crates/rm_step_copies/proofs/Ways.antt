@@ -10,8 +10,8 @@ use Rattle.rm_report.specs.declared.line.Line.{Line}
 use Rattle.rm_catalog_typed.{specs.{Changes.{EditsFollow}, Fitting.{HasId}}, proofs.{Changed.{follows-then}, Lookups.{piece-id-within}}}
 use Rattle.rm_machine.specs.RecoverCopy.{after_copies, after_copy, changed, copies_gone, copies_lines, copies_put, renewed_lines, renewed_name, renewed_object, renewed_refusal}
 use Rattle.rm_machine.specs.{Sound.{IsSound}, State.{ledger}, declared.{handed.Handed.{Handed}, state.State.{State}}}
-use Rattle.rm_machine.proofs.Standing.{each-in}
 use Rattle.rm_machine.proofs.Renewing.{CanRenewAll, CanRenewTo, drawn, first-can, first-room, fits as renew-fits, ids-left, rest-can, sound-to}
+use Rattle.rm_base.proofs.Standing.{each-in}
 use Rattle.rm_step_copies.specs.Fit.{AreFit, CanPut, CanRecord, IsFit}
 
 -- those from place k on

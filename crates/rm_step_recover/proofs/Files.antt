@@ -2,7 +2,7 @@
 use Rattle.std.specs.Option.{option_map_or}
 use Rattle.std.proofs.Common.{◌≡◌, ◌<◌, ◌≤◌, ◌∙◌, ℕ, List, Option, Some, ap, sym, subst, arith, length, All, Contains}
 use Rattle.std.proofs.lemmas.{List.Elements.{All-contains}, Option.{slice_get_within}}
-use Rattle.rm_base.{specs.Store.{Held}, proofs.{Lists.{map_from, map_to}, Slots.{all-get}}}
+use Rattle.rm_base.{specs.Store.{Held}, proofs.{Lists.{map_from, map_to}, Slots.{all-get}, Standing.{each-in}}}
 use Rattle.rm_blocks.specs.File.{File}
 use Rattle.rm_evidence.specs.Known.{known_of}
 use Rattle.rm_history.specs.declared.world.{Datafile.{Datafile}, World.{World}}
@@ -11,8 +11,7 @@ use Rattle.rm_plan.specs.Plan.{IsFileTarget}
 use Rattle.rm_apply.specs.{Files.{AreExactly, IsAsked}, Recover.{TellsAll}, Restore.{IsRestoration, Restoration, Restores, restored}}
 use Rattle.rm_apply.specs.{Told.{AreFilesAt, IsTold}, declared.{origin.Origin.{Origin}, recovering.Recovered.{Recovered}}}
 use Rattle.rm_machine.specs.{Recovery.{in_place}, Sound.{IsSound}, State.{ledger, tree, world}, declared.state.State.{State}}
-use Rattle.rm_machine.proofs.{Numbers.{file-place}, Placing.{number}, Restoring.{are-restored, file-number}, Standing.{each-in}}
-use Rattle.rm_machine.proofs.Told.{tells-files}
+use Rattle.rm_machine.proofs.{Numbers.{file-place}, Placing.{number}, Restoring.{are-restored, file-number}, Told.{tells-files}}
 use Rattle.rm_step_recover.specs.{Lines.{HasLines}, Placing.{HasPlace}}
 
 module _ (held : Option Held) (s : State) (sound : IsSound s) (i at : ℕ) where

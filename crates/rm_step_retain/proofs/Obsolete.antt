@@ -5,10 +5,10 @@ use Rattle.std.proofs.lemmas.Option.{IfSome_then}
 use Rattle.rm_base.specs.{Store.{Held}, declared.kinds.Policy.{Policy}}
 use Rattle.rm_catalog.specs.{Keys.{key_of}, declared.record.Record.{Record, TheVariants.{Log, Piece, Set}}}
 use Rattle.rm_evidence.specs.{Names.{object_id}, declared.evidence.Evidence.{Evidence}}
-use Rattle.rm_catalog_typed.specs.TypedCatalog.{records_of}
+use Rattle.rm_catalog_typed.{specs.TypedCatalog.{records_of}, proofs.Ids.{few-ids, row-id, some-ids, IsId}}
 use Rattle.rm_retain.specs.{Catalogued.{AreObsolete, IsObsoleteRecord, by_records}, Chosen.{Retention}}
 use Rattle.rm_machine.specs.{Obsolete.{AreObsoleteIn, retention_of, start_by}, Recovery.{IsAtHand}, Sound.{IsSound}, State.{ledger}}
-use Rattle.rm_machine.{specs.declared.state.State.{State}, proofs.Ids.{few-ids, row-id, some-ids, IsId}}
+use Rattle.rm_machine.specs.declared.state.State.{State}
 use Rattle.rm_step_retain.proofs.Hand.{of-state}
 
 -- only a record of an object is obsolete

@@ -1,13 +1,12 @@
 -- No line of the schema has a moment, nor one of a damaged block, of an incarnation or of a row.
 use Rattle.std.proofs.Common.{◌≡◌, ◌+◌, ◌++◌, ℕ, zero, suc, List, [], ◌∷◌, Option, Some, All, get_or, length, refl, subst, sym}
 use Rattle.std.proofs.lemmas.List.Elements.{All-cons, All-contains, All-map, All-nil, Contains-append_left, Contains-get_or}
-use Rattle.rm_base.specs.{Store.{Held}, declared.block.BlockId.{BlockId}}
+use Rattle.rm_base.{specs.{Store.{Held}, declared.block.BlockId.{BlockId}}, proofs.EveryStore.{nothing}}
 use Rattle.rm_history.specs.declared.{tree.Incarnation.{Incarnation}, world.Datafile.{Datafile}}
 use Rattle.rm_lang_statement.specs.declared.command.Command.TheVariants.{Dump, ListIncarnation}
 use Rattle.rm_report.specs.{Reply.{IsPlain}, declared.line.Line.{Line, TheVariants.{BlockDamaged, Dumped, Schema}}}
 use Rattle.rm_machine.specs.{Corrupt.{damage_lines}, Effect.{told}, Hands.{Tells}, ListIncarnation.{incarnation_line, incarnation_lines}}
 use Rattle.rm_machine.specs.{Shown.{place_of, schema_lines}, State.{current_of, ledger, tree}, declared.state.State.{State}}
-use Rattle.rm_machine.proofs.EveryStore.{nothing}
 
 schema-dated : (s : State) (f : ℕ) (ds : List Datafile) → All IsPlain (schema_lines s f ds)
 schema-dated s f [] = All-nil IsPlain

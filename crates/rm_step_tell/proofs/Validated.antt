@@ -7,9 +7,10 @@ use Rattle.rm_catalog.specs.declared.record.{LogEntry.{LogEntry}, PieceEntry.{Pi
 use Rattle.rm_evidence.specs.{Available.{IsSkipped, a_log, a_piece, a_set}, Gathered.{Lists}}
 use Rattle.rm_report.specs.{Reply.{IsPlain}, declared.line.Line.{Line, TheVariants.{BadOf, Checked}}}
 use Rattle.rm_catalog_typed.{specs.TypedCatalog.{records_of}, proofs.Members.{log-in, piece-in, set-in}}
+use Rattle.rm_catalog_typed.proofs.Ids.{few-ids, log-id, piece-id, set-id, IsId}
 use Rattle.rm_lang_statement.specs.declared.command.Command.TheVariants.{ValidateAll}
 use Rattle.rm_machine.specs.{Effect.{told}, Hands.{Tells}, Sound.{IsSound}, State.{ledger}, Validate.{count_available}}
-use Rattle.rm_machine.{specs.declared.state.State.{State}, proofs.Ids.{few-ids, log-id, piece-id, set-id, IsId}}
+use Rattle.rm_machine.specs.declared.state.State.{State}
 
 -- the lines
 abbrev pub bad_lines : List (ℕ × Bad) → List Line

@@ -3,8 +3,8 @@ use Rattle.std.proofs.Common.{◌≡◌, ◌∙◌, ◌==◌, ℕ, Some, refl, s
 use Rattle.rm_catalog.specs.declared.record.{LogEntry.{LogEntry}, PieceEntry.{PieceEntry}, SetEntry.{SetEntry}}
 use Rattle.rm_catalog_typed.specs.{Facts.{IsTypedCatalog}, Fitting.{FitsLog, FitsPiece, FitsSet}, TypedCatalog.{TypedCatalog}}
 use Rattle.rm_machine.specs.{Sound.{IsSound}, Upkeep.{log_changed, piece_changed, set_changed, with_catalog}, declared.state.State.{State}}
-use Rattle.rm_machine.proofs.Searched.{found-in}
 use Rattle.rm_machine.proofs.Entries.{LogAs, PieceAs, SetAs, log-as-fits, log-on, piece-as-fits, piece-on, set-as-fits, set-on}
+use Rattle.rm_base.proofs.Searched.{found-in}
 use Rattle.rm_step_upkeep.specs.{Amended.{log_by, piece_by, set_by}, declared.amending.Amendment.{Amendment}}
 use Rattle.rm_step_upkeep.specs.declared.amending.Amendment.TheVariants as by
 

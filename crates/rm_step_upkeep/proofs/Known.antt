@@ -3,9 +3,8 @@ use Rattle.std.proofs.Common.{◌≡◌, ◌<◌, ◌==◌, ◌&&◌, inl, inr, 
 use Rattle.std.proofs.lemmas.Bool.{cases_Bool, eqb-true}
 use Rattle.rm_base.{specs.declared.refusal.Refusal.{Refusal}, proofs.Lists.{find_cases}}
 use Rattle.rm_catalog.specs.declared.record.{LogEntry.{LogEntry}, PieceEntry.{PieceEntry}, SetEntry.{SetEntry}}
-use Rattle.rm_catalog_typed.specs.{Facts.{IsTypedCatalog}, TypedCatalog.{TypedCatalog}}
+use Rattle.rm_catalog_typed.{specs.{Facts.{IsTypedCatalog}, TypedCatalog.{TypedCatalog}}, proofs.Ids.{IsId, log-id, piece-id, set-id}}
 use Rattle.rm_machine.specs.{Marks.{lacks_ids}, Upkeep.{is_unknown, record_refusal}, declared.state.State.{State}}
-use Rattle.rm_machine.proofs.Ids.{IsId, log-id, piece-id, set-id}
 
 module _ (r : TypedCatalog) (rules : IsTypedCatalog r) where
   -- what is there has such an id

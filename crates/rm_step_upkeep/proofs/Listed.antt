@@ -8,12 +8,12 @@ use Rattle.rm_apply.specs.Files.{AreExactly}
 use Rattle.rm_catalog.specs.declared.record.Record.{Record}
 use Rattle.rm_evidence.{specs.{Gathered.{Lists}, Names.{object_id}}, proofs.{Extending.{only-in}, Single.{IsOfOne}}}
 use Rattle.rm_report.specs.declared.line.Line.TheVariants.{Deleted, DeletedCount}
-use Rattle.rm_catalog_typed.specs.{Facts.{IsTypedCatalog}, TypedCatalog.{TypedCatalog, records_of}}
+use Rattle.rm_catalog_typed.{specs.{Facts.{IsTypedCatalog}, TypedCatalog.{TypedCatalog, records_of}}, proofs.Ids.{row-id, IsId}}
 use Rattle.rm_lang_statement.specs.declared.command.Command.TheVariants.{DeleteExpired}
 use Rattle.rm_verify.specs.{Classes.{is_of, object_in}, Told.{Tells}, declared.object.Expected.{Expected}}
 use Rattle.rm_verify.proofs.Checked.{numbered, passed}
 use Rattle.rm_machine.specs.{Effect.{no_effect}, Hands.{Hands}, Sound.{IsSound}, Upkeep.{IsExpired, with_catalog, without_all}}
-use Rattle.rm_machine.{specs.declared.{handed.Handed.{Handed}, state.State.{State}}, proofs.{Handing.{hands-by}, Ids.{row-id, IsId}}}
+use Rattle.rm_machine.{specs.declared.{handed.Handed.{Handed}, state.State.{State}}, proofs.Handing.{hands-by}}
 use Rattle.rm_step_upkeep.specs.Expired.{Alone, expired, when_expired}
 
 -- an id is told of what is expired alone

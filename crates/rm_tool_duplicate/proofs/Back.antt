@@ -5,7 +5,7 @@ use Rattle.std.proofs.lemmas.List.{length-map}
 use Rattle.rm_apply.{specs.Recover.{outside}, proofs.Numbers.{few-targets}}
 use Rattle.rm_base.specs.Store.{Both, Held}
 use Rattle.rm_catalog.specs.{Edits.{after_edits}, Rules.{HasDatabase, IsCatalog}, Trees.{nodes}, declared.record.Edit.TheVariants.{Put}}
-use Rattle.rm_catalog.specs.declared.record.Record.{Record}
+use Rattle.rm_catalog.{specs.declared.record.Record.{Record}, proofs.Recorded.{recorded}}
 use Rattle.rm_catalog_typed.{specs.TypedCatalog.{records_of}, proofs.{Records.{database-told, tree-told}, Valid.{typed_catalog-valid}}}
 use Rattle.rm_commit.specs.Carrying.{AreMoved, Carried}
 use Rattle.rm_dup.specs.{Entries.{HoldsCopies}, declared.database.Duplicate.{Duplicate}}
@@ -15,7 +15,7 @@ use Rattle.rm_lang_statement.specs.declared.command.Until.TheVariants.{Scn}
 use Rattle.rm_machine.specs.{RecoverTest.{test_refusal}, State.{world}, Until.{or_else}, declared.state.State.{State}}
 use Rattle.rm_tool_duplicate.specs.{Asked.{Sides, target_inc}, Duplicated.{IsMade, commit_of}}
 use Rattle.rm_tool_duplicate.{specs.Refused.{HasRecords, files_at, name_refusal, number_refusal}, proofs.Reasons.{number-none}}
-use Rattle.rm_tool_duplicate.proofs.{Recorded.{recorded}, Standing.{holds-copies}}
+use Rattle.rm_tool_duplicate.proofs.Standing.{holds-copies}
 use Rattle.rm_step_recover.proofs.Targets.{target-inside, target-there}
 
 -- the first of two reasons is none where there is none

@@ -3,8 +3,8 @@ use Rattle.std.specs.Prelude.{count_by, filter}
 use Rattle.std.proofs.Common.{◌≡◌, ◌<◌, ◌≤◌, ◌+◌, ◌-◌, ◌++◌, ◌∙◌, ℕ, zero, suc, Bool, true, false, cond, List, [], ◌∷◌, Some, get_or, length, take, refl, ap, sym, subst, arith}
 use Rattle.std.proofs.{Math.Seq.{take-length}, lemmas.List.{length-append, Filters.{length-filter_more}, Sums.{length-filter}}}
 use Rattle.std.proofs.lemmas.Option.{slice_get-get_or, slice_get_within}
-use Rattle.rm_apply.{specs.Files.{AreExactly}, proofs.{Numbers.{Below, all_numbers, one_more, one_past}, Unique.{same_members}}}
-use Rattle.rm_base.proofs.Members.{none-in}
+use Rattle.rm_apply.{specs.Files.{AreExactly}, proofs.Numbers.{Below, all_numbers, one_more, one_past}}
+use Rattle.rm_base.proofs.{OneOrder.{one-order}, Members.{none-in}}
 use Rattle.rm_history.specs.{Tree.{IsThere}, World.{exists, file_of}, declared.world.{Datafile.{Datafile}, World.{World}}}
 use Rattle.rm_history.proofs.Worlds.{file-there}
 use Rattle.rm_machine.proofs.Numbers.{file-at}
@@ -77,6 +77,6 @@ module _ (w : World) (i s : ℕ) (there : IsThere w.tree i) where
       let all = numbered (length w.files) (omega arith) in
       let exact = all_numbers (IsFileTarget w i s) (length w.files + 1) all.numbers
       (λ f target. let at = file-there w f target.datafile target.is in let low = at.0 in let inside = slice_get_within w.files (f - 1) target.datafile at.1 in omega (arith, low, inside)) all.exact in
-      let same : all.numbers ≡ ns = same_members (λ (a b : ℕ). a < b) one-way all.numbers ns exact.ascends are.ascends
-      (λ f has. (are.exact f).1 ((exact.exact f).0 has)) (λ f has. (exact.exact f).1 ((are.exact f).0 has)) in
+      let same : all.numbers ≡ ns = one-order (λ (a b : ℕ). a < b) one-way all.numbers ns exact.ascends are.ascends
+      (λ f. ((λ has. (are.exact f).1 ((exact.exact f).0 has)), (λ has. (exact.exact f).1 ((are.exact f).0 has)))) in
       ap length (sym same) ∙ all.many ∙ ap (λ ds. length (filter (exists w i s) ds)) (take-length w.files) ∙ length-filter (exists w i s) w.files

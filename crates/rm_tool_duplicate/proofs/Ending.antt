@@ -1,21 +1,20 @@
 -- How a duplicate ends, of how the calls below it did.
 use Rattle.std.{specs.Prelude.{IfOk, OnErr, OnOk}, proofs.Common.{◌≡◌, ◌∙◌, ℕ, List, Option, Some, None, Result, Ok, Err, refl, subst, sym}}
-use Rattle.rm_base.specs.{Outside.{Appends}, Store.{Held}, declared.refusal.Refusal.{Refusal}}
+use Rattle.rm_base.{specs.{Outside.{Appends}, Store.{Held}, declared.refusal.Refusal.{Refusal}}, proofs.Conditions.{on-err, on-ok}}
 use Rattle.rm_commit.specs.{Carrying.{Carried, Halted}, declared.commit.Stop.{Stop}}
 use Rattle.rm_commit.specs.declared.commit.Stop.TheVariants as stop
 use Rattle.rm_dup.specs.declared.database.Duplicate.{Duplicate}
 use Rattle.rm_lang_words.specs.Duplicate.{DuplicateSaid}
 use Rattle.rm_machine.specs.declared.state.State.{State}
 use Rattle.rm_machine_laws.specs.Holds.{View}
-use Rattle.rm_shelf.specs.Shelved.{AllStay, Shelved, under}
+use Rattle.rm_shelf.{specs.Shelved.{AllStay, Shelved, under}, proofs.Staying.{under-stays}}
 use Rattle.rm_tool_opening.specs.{Opening.{IsSource, TellsValid}, Opens.{Opens, Shows}, declared.opening.Unopened.{Unopened}}
 use Rattle.rm_tool_opening.proofs.Source.{source-of}
 use Rattle.rm_tool_duplicate.specs.{Asked.{Sides, sides}, Duplicated.{IsMade, IsMadeOf, Makes, commit_of, lines_text}}
 use Rattle.rm_tool_duplicate.specs.{Ended.{Finishes, IsReady, Leaves, before_changes, in_changes, in_lines, in_refusal}, Refused.{Refuses}}
-use Rattle.rm_tool_duplicate.{specs.declared.preparing.Ready.{Ready}, proofs.Staying.{under-stays}}
+use Rattle.rm_tool_duplicate.specs.declared.preparing.Ready.{Ready}
 use Rattle.rm_tool_ends.specs.{Causes.{of_stop}, Writing.{WritesFront, WritesRefusal}, declared.ended.Ended.{Ended}}
 use Rattle.rm_tool_ends.specs.declared.ended.Ended.TheVariants as ended
-use Rattle.rm_tool_ends.proofs.Ending.{on-err, on-ok}
 
 -- both sides stay where the stores and all numbers do
 pub sides-stay : (x : DuplicateSaid) (from from' to to' : Option Held) (h h' : Option Shelved) → from' ≡ from → to' ≡ to → AllStay h h' → sides x from' to' h' ≡ sides x from to h

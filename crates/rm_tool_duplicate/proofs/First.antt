@@ -8,8 +8,8 @@ use Rattle.rm_dup.specs.Entries.{nothing}
 use Rattle.rm_history.specs.Tree.{end_of}
 use Rattle.rm_machine.specs.{Damage.{undamaged}, Loading.{IsLoaded, IsLoadedBy, lost_instance}, Recovery.{in_place, online_logs}}
 use Rattle.rm_machine.specs.{State.{counted, is_lost, is_online, ledger, online}, declared.state.{Instance.{Instance}, State.{State}}}
+use Rattle.rm_machine.proofs.AllLost.{all-lost}
 use Rattle.rm_redo.specs.Online.{has_log}
-use Rattle.rm_session.proofs.Lost.{all-lost}
 
 -- where each is lost, none is in place
 none-placed : (k n : ℕ) → filter_map (λ (o : Option File). o) (undamaged [] k (replicate n None)) ≡ []

@@ -6,8 +6,6 @@ pub mod Lines
 pub mod Made
 pub mod Naming
 pub mod Reasons
-pub mod Recorded
 pub mod Standing
 pub mod Statuses
-pub mod Staying
 pub mod Truth

@@ -4,7 +4,7 @@ use Rattle.std.proofs.Common.{◌≡◌, ◌<◌, ◌≤◌, ◌+◌, ◌∙◌,
 use Rattle.std.proofs.lemmas.{List.{Elements.{All-contains}, Sums.{sum_by-cons}}, Option.{slice_get_within}}
 use Rattle.rm_apply.specs.{Recover.{TellsAll, outside}, Told.{AreFilesAt, IsTold}, declared.recovering.Recovered.{Recovered}}
 use Rattle.rm_base.{specs.{Store.{Held}, declared.block.{Change.{Change}, Row.{Row}}}, proofs.Lists.{map_from, map_to}}
-use Rattle.rm_base.proofs.{Members.{behind, in-front}, Slots.{all-get}}
+use Rattle.rm_base.proofs.{Members.{behind, in-front}, Slots.{all-get}, Standing.{each-get, each-in}}
 use Rattle.rm_blocks.specs.File.{File}
 use Rattle.rm_catalog_typed.specs.{LedgerFacts.{IsCreated}, TypedCatalog.{records_of}}
 use Rattle.rm_dup.{specs.Copies.{as_first}, proofs.{Back.{solid}, Blocks.{few-blocks}, Source.{within}}}
@@ -12,8 +12,7 @@ use Rattle.rm_evidence.{specs.Known.{known_of}, proofs.{Contents.{seen-content},
 use Rattle.rm_history.specs.{History.{IsHistory}, State.{rows_from, states}, Tree.{IsThere, end_of, owner, reset_of}}
 use Rattle.rm_history.specs.{World.{blocks_of, exists, file_of}, declared.world.{Datafile.{Datafile}, World.{World}}}
 use Rattle.rm_machine.specs.{Recovery.{AreMadeAt, file_at, in_place}, Sound.{IsSound}, State.{current_of, ledger, tree, world}}
-use Rattle.rm_machine.{specs.declared.state.State.{State}, proofs.{Numbers.{file-place}, Standing.{each-get, each-in}}}
-use Rattle.rm_machine.proofs.Told.{tells-files, tells-fits}
+use Rattle.rm_machine.{specs.declared.state.State.{State}, proofs.{Numbers.{file-place}, Told.{tells-files, tells-fits}}}
 use Rattle.rm_plan.specs.Plan.{IsFileTarget}
 use Rattle.rm_piece.specs.declared.set.Set.{Set}
 use Rattle.rm_standby.specs.{Image.{AreStates, CanImage, StandsAt, imaged}, Standby.{HoldsStates}}

@@ -1,8 +1,7 @@
 -- What is left of a standby's store where a new standby takes the place of that of before.
 use Rattle.std.specs.{Prelude.{IsSome, OnErr, Ok, Err, Result}, Option.{option_map}}
 use Rattle.std.proofs.Common.{◌≡◌, ◌≢◌, ◌+◌, ◌∙◌, ℕ, List, Option, Some, None, IfSome, refl, arith}
-use Rattle.rm_base.specs.Store.{Both, HasNow, Held, SameBut}
-use Rattle.rm_commit.proofs.Told.{both-map, both-then, both-two}
+use Rattle.rm_base.{specs.Store.{Both, HasNow, Held, SameBut}, proofs.Both.{both-map, both-then, both-two}}
 use Rattle.rm_piece.specs.{SetSpelling.{set_spelling}, declared.set.Set.{Set}}
 use Rattle.rm_standby_store.{specs.Names.{standby_name}, proofs.Naming.{name-apart}}
 use Rattle.rm_tool_standby.specs.Kept.{IsGone, IsNoneOf, OthersAre, Replaced, Replaces, StoppedIn, Stops, in_put, in_remove, next_number}

@@ -5,8 +5,9 @@ use Rattle.std.proofs.lemmas.{Bool.{cases_lt}, Option.{same_Some}}
 use Rattle.rm_base.specs.{Store.{Held}, declared.kinds.{Bad.{Bad, TheVariants.{Missing}}, Class.{Class}, Status.{Status}}}
 use Rattle.rm_base.specs.declared.kinds.Status.TheVariants.{Available, Unavailable, Expired}
 use Rattle.rm_catalog.specs.{Keys.{at, place_of}, Rules.{IsCatalog}, declared.record.Record.{Record, TheVariants.{Log, Piece, Set}}}
+use Rattle.rm_catalog.proofs.Numbering.{at-is}
 use Rattle.rm_evidence.specs.{Available.{IsBad, IsSkipped, IsSkippedAmong}, Database.{Database, database_in}}
-use Rattle.rm_evidence.{specs.Names.{log_name, object_id, piece_name, set_name}, proofs.Found.{at-is}}
+use Rattle.rm_evidence.specs.Names.{log_name, object_id, piece_name, set_name}
 use Rattle.rm_evidence.proofs.{Records.{IsBadRecord, bad-by, bad-to, only, skipped-single}, Runs.{apart}}
 use Rattle.rm_verify.specs.{Classes.{is_of, object_in}, Crosscheck.{IsChecked, checked, stands_in, status_after}}
 use Rattle.rm_verify.specs.declared.object.Expected.{Expected}

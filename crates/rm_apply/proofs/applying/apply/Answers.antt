@@ -1,8 +1,7 @@
 use Rattle.std.proofs.Common.{◌≡◌, ◌∙◌, List, ap, map, subst, sym}
 use Rattle.rm_base.specs.declared.block.Row.{Row}
 use Rattle.rm_blocks.specs.File.{File, IsInOrder}
-use Rattle.rm_channel.specs.Applied.{row_of}
-use Rattle.rm_apply.proofs.Parts.{parts-ascend, taken-on}
+use Rattle.rm_channel.{specs.Applied.{row_of}, proofs.Parts.{parts-ascend, taken-on}}
 use Rattle.rm_apply.proofs.applying.apply.Goals as goal
 
 pub apply_in_order-requires-clause-order : goal.apply_in_order-requires-clause-order

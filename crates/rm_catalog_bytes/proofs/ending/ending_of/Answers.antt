@@ -1,6 +1,6 @@
 use Rattle.std.{specs.Prelude.{IsUtf8}, proofs.Common.{◌≡◌, ◌∙◌, ◌<◌, ◌^◌, List, ℕ, length, ap, sym, subst, arith, rules}}
-use Rattle.rm_base.specs.Number.{eight}
-use Rattle.rm_catalog_bytes.{specs.{Fits.{EndingFits}, Spelling.{ending_bytes}}, proofs.Fronts.{parted, whole}}
+use Rattle.rm_base.{specs.Number.{eight}, proofs.Fronts.{parted, whole}}
+use Rattle.rm_catalog_bytes.specs.{Fits.{EndingFits}, Spelling.{ending_bytes}}
 use Rattle.rm_catalog_bytes.proofs.Endings.{length-ending_bytes, ending_same, with_tag, made_of, made_fits, tail_told, letters_told, length-tail}
 use Rattle.rm_catalog_bytes.proofs.ending.ending_of.Goals as goal
 

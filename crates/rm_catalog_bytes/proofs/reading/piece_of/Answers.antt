@@ -1,7 +1,7 @@
 use Rattle.std.proofs.{Common.{◌∙◌, [], sym, subst, arith, rules}, lemmas.List.{append-nil}}
-use Rattle.rm_catalog_bytes.{specs.{Fits.{EndingFits}, Spelling.{piece_ending}}, proofs.Fronts.{parted}}
-use Rattle.rm_catalog_bytes.proofs.Pieces.{front_told, long, piece_found, piece_same}
+use Rattle.rm_catalog_bytes.{specs.{Fits.{EndingFits}, Spelling.{piece_ending}}, proofs.Pieces.{front_told, long, piece_found, piece_same}}
 use Rattle.rm_catalog_bytes.proofs.reading.piece_of.Goals as goal
+use Rattle.rm_base.proofs.Fronts.{parted}
 
 pub returns-then-bytes-lt38-clause-only : goal.returns-then-bytes-lt38-clause-only
 returns-then-bytes-lt38-clause-only c r fits id is = let all = long r c.args.bytes.now is in absurd (omega (arith, all))

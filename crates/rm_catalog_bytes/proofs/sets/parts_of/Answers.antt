@@ -1,7 +1,6 @@
 use Rattle.std.{specs.List.{flat_map}, proofs.Common.{◌∙◌, ◌*◌, sym, arith}}
-use Rattle.rm_base.proofs.Items.{items_next}
-use Rattle.rm_catalog_bytes.{specs.{Fits.{SetPartFits}, Spelling.{set_part_bytes}}, proofs.Fronts.{whole}}
-use Rattle.rm_catalog_bytes.proofs.SetTold.{parts_same, set_part_same}
+use Rattle.rm_base.proofs.{Items.{items_next}, Fronts.{whole}}
+use Rattle.rm_catalog_bytes.{specs.{Fits.{SetPartFits}, Spelling.{set_part_bytes}}, proofs.SetTold.{parts_same, set_part_same}}
 use Rattle.rm_catalog_bytes.proofs.sets.parts_of.Goals as goal
 
 pub returns-in_default-clause-only : goal.returns-in_default-clause-only

@@ -1,7 +1,7 @@
 use Rattle.std.proofs.Common.{◌∙◌, sym, arith, rules}
-use Rattle.rm_catalog_bytes.{specs.Spelling.{set_ending}, proofs.Fronts.{parted}}
-use Rattle.rm_catalog_bytes.proofs.SetTold.{behind_long, long, parts_told, set_behind, set_found, set_same}
+use Rattle.rm_catalog_bytes.{specs.Spelling.{set_ending}, proofs.SetTold.{behind_long, long, parts_told, set_behind, set_found, set_same}}
 use Rattle.rm_catalog_bytes.proofs.sets.set_of.Goals as goal
+use Rattle.rm_base.proofs.Fronts.{parted}
 
 pub returns-then-bytes-lt20-clause-only : goal.returns-then-bytes-lt20-clause-only
 returns-then-bytes-lt20-clause-only c r fits id is = let all = long r c.args.bytes.now is in absurd (omega (arith, all))

@@ -1,5 +1,5 @@
 use Rattle.std.proofs.lemmas.Bool.Decides.{Decides-at}
-use Rattle.rm_control.proofs.Same.{piece_decides}
+use Rattle.rm_catalog.proofs.Same.{piece_decides}
 use Rattle.rm_control.proofs.differences.is_same_piece.Goals as goal
 
 pub returns : goal.returns

@@ -1,5 +1,5 @@
 use Rattle.std.proofs.lemmas.Bool.Decides.{Decides-at}
-use Rattle.rm_control.proofs.Same.{set_decides}
+use Rattle.rm_catalog.proofs.Same.{set_decides}
 use Rattle.rm_control.proofs.differences.is_same_set.Goals as goal
 
 pub returns : goal.returns

@@ -1,6 +1,6 @@
 use Rattle.std.{specs.Prelude.{IsPermutation}, proofs.Common.{◌<◌, AllPairs, rules, sym, subst}}
 use Rattle.std.proofs.lemmas.List.Sorted.{IsNonDecreasingBy-from_sort_by_key}
-use Rattle.rm_evidence.proofs.Sorting.{id-of, sorted-ascends}
+use Rattle.rm_base.proofs.Sorting.{id-of, sorted-ascends}
 use Rattle.rm_evidence.proofs.order.by_id.Goals as goal
 
 pub returns-clause-ascends : goal.returns-clause-ascends

@@ -1,7 +1,7 @@
 use Rattle.std.proofs.{Common.{sym}, lemmas.Result.{IfOk-weaker}}
 use Rattle.rm_catalog.specs.declared.record.LogEntry.{LogEntry}
 use Rattle.rm_evidence.specs.Names.{log_name}
-use Rattle.rm_machine.proofs.Named.{no-name, one-name}
+use Rattle.rm_base.proofs.OneOf.{no-name, one-name}
 use Rattle.rm_machine.proofs.naming.push_log_name.Goals as goal
 
 pub returns-in_ok-log_name-in-Some : goal.returns-in_ok-log_name-in-Some

@@ -1,7 +1,7 @@
 use Rattle.std.{specs.Prelude.{sum_by}, proofs.Common.{◌≡◌, ◌≤◌, ◌+◌, ◌^◌, ◌∙◌, List, subst, sym, ap, arith, length, All, ℕ}}
 use Rattle.rm_catalog.specs.declared.record.{LogEntry.{LogEntry}, PieceEntry.{PieceEntry}, SetEntry.{SetEntry}}
-use Rattle.rm_catalog_typed.specs.{Ledger.{Ledger}, LedgerFacts.{IsLedger}}
-use Rattle.rm_machine.{specs.State.{ledger}, proofs.Sizes.{logs-small, parts-few, pieces-small, sets-few}}
+use Rattle.rm_catalog_typed.{specs.{Ledger.{Ledger}, LedgerFacts.{IsLedger}}, proofs.Sizes.{logs-small, parts-few, pieces-small, sets-few}}
+use Rattle.rm_machine.specs.State.{ledger}
 use Rattle.rm_machine.proofs.room.recorded_bytes.Goals as goal
 
 abbrev log_sizes : List LogEntry → ℕ

@@ -1,6 +1,7 @@
 use Rattle.std.proofs.{Common.{nat_le, rules, arith}, lemmas.List.Sorted.{IsPartitionPoint-from_clause, IsPartitionedBy-leb}}
-use Rattle.rm_plan.{specs.declared.span.Span.{Span}, proofs.{Conditions.{gt_from, le_from}, Spans.{outside_apart, outside_before}}}
+use Rattle.rm_plan.{specs.declared.span.Span.{Span}, proofs.Spans.{outside_apart, outside_before}}
 use Rattle.rm_plan.proofs.span.first_outside_apart.Goals as goal
+use Rattle.rm_base.proofs.Tests.{gt_from, le_from}
 
 abbrev blank : Span
 blank = record { start = 0; end = 0 }

@@ -1,5 +1,5 @@
 use Rattle.std.{specs.declared.result.Result.TheVariants.{Ok, Err}, proofs.lemmas.List.Sorted.{searched}}
-use Rattle.rm_retain.proofs.Searched.{up_of, found_is, none_is}
+use Rattle.rm_base.proofs.SearchedIds.{up_of, found_is, none_is}
 use Rattle.rm_retain.proofs.deciding.is_chosen.Goals as goal
 
 pub returns-in-Ok : goal.returns-in-Ok

@@ -1,5 +1,5 @@
 use Rattle.std.proofs.Common.{◌∙◌, ap, sym}
-use Rattle.rm_site.specs.ComesOut.{by_state}
+use Rattle.rm_machine.specs.Nature.{by_state}
 use Rattle.rm_site.proofs.Accepted.{asks_store, it-changes}
 use Rattle.rm_site.proofs.statement.accepted.Goals as goal
 

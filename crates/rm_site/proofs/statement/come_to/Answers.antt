@@ -1,5 +1,5 @@
 use Rattle.std.proofs.Common.{◌∙◌, sym}
-use Rattle.rm_site.proofs.DatedRefusals.{refusal-dated}
+use Rattle.rm_machine_laws.proofs.DatedRefusals.{refusal-dated}
 use Rattle.rm_site.proofs.statement.come_to.Goals as goal
 
 pub returns-in-Some-clause-dates : goal.returns-in-Some-clause-dates

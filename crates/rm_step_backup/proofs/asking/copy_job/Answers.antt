@@ -1,9 +1,9 @@
 use Rattle.std.{specs.Option.{option_map}, proofs.Common.{◌≤◌, ◌∙◌, Option, List, IfSome, ap, sym, subst, arith, length}}
 use Rattle.rm_base.specs.declared.block.Row.{Row}
 use Rattle.rm_channel.specs.declared.jobs.Wanted.{Wanted}
-use Rattle.rm_step_backup.{specs.Copying.{IsCopyOf}, proofs.{Copying.{copy-all, copy-some}, Counted.{few-rows}}}
-use Rattle.rm_step_backup.proofs.asking.copy_job.Goals.{in-Some, in-None}
+use Rattle.rm_step_backup.{specs.Copying.{IsCopyOf}, proofs.{Copying.{copy-all, copy-some}, asking.copy_job.Goals.{in-Some, in-None}}}
 use Rattle.rm_step_backup.proofs.asking.copy_job.Goals as goal
+use Rattle.rm_machine.proofs.Counted.{few-rows}
 use Rattle.rm_track.specs.{Bits.{IsBits, marks_of}, declared.bits.Bits.{Bits}}
 
 pub overflow_cast-wanted : goal.overflow_cast-wanted

@@ -1,6 +1,7 @@
 use Rattle.std.{specs.Vec.Iter.{into_iter_items}, proofs.{Common.{◌≡◌, ◌∷◌, map, ap}, lemmas.List.Elements.{All-rest}}}
-use Rattle.rm_step_backup.{specs.{Making.{CanMake, made_by}, declared.{making.Made.{Made}, reading.Read.{Read}}}, proofs.Filled.{filled-on}}
+use Rattle.rm_step_backup.specs.{Making.{CanMake, made_by}, declared.{making.Made.{Made}, reading.Read.{Read}}}
 use Rattle.rm_step_backup.proofs.making.make_each.Goals as goal
+use Rattle.rm_base.proofs.Filled.{filled-on}
 
 pub loop-read-preserved : goal.loop-read-preserved
 loop-read-preserved c =

@@ -3,7 +3,8 @@ use Rattle.rm_catalog.specs.declared.record.Record.{Record}
 use Rattle.rm_evidence.specs.{Gathered.{IsGathered}, Known.{AreRecorded, IsRecorded}, Place.{FitsPlace}}
 use Rattle.rm_evidence.proofs.{Fitting.{gathered-recorded, level1s-recorded}, Seen.{seen-so, seen-told}}
 use Rattle.rm_machine.{specs.Recovery.{in_place}, proofs.Fitting.{gathered-hand, place-fits}}
-use Rattle.rm_step_copies.proofs.Hand.{fits-state, ok-then}
+use Rattle.rm_base.proofs.Conditions.{ok-then}
+use Rattle.rm_step_copies.proofs.Hand.{fits-state}
 use Rattle.rm_step_copies.proofs.evidence.evidence_of.Goals as goal
 
 pub gather_by-requires-clause-place : goal.gather_by-requires-clause-place

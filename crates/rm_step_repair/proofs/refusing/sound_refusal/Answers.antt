@@ -1,6 +1,6 @@
 use Rattle.std.proofs.Common.{rules, ◌≡◌, ◌∙◌, Some, arith, not, sym}
 use Rattle.rm_machine.specs.Damage.{has_block}
-use Rattle.rm_machine.proofs.Searched.{found-in}
+use Rattle.rm_base.proofs.Searched.{found-in}
 use Rattle.rm_step_repair.proofs.Named.{named, named-form}
 use Rattle.rm_step_repair.proofs.refusing.sound_refusal.Goals as goal
 

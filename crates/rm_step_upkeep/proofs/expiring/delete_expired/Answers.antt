@@ -1,6 +1,7 @@
 use Rattle.std.proofs.Common.{◌≤◌, ◌<◌, ◌^◌, ◌∙◌, ◌++◌, ◌∷◌, [], ℕ, List, All, ap, length, map, subst, sym}
 use Rattle.rm_report.specs.declared.line.Line.TheVariants.{Deleted, DeletedCount}
-use Rattle.rm_machine.{specs.{Upkeep.{with_catalog, without_all}, declared.state.State.{State}}, proofs.Ids.{few-ids, some-ids}}
+use Rattle.rm_machine.specs.{Upkeep.{with_catalog, without_all}, declared.state.State.{State}}
+use Rattle.rm_catalog_typed.proofs.Ids.{few-ids, some-ids}
 use Rattle.rm_step_upkeep.proofs.Listed.{expired-hands, in-range}
 use Rattle.rm_step_upkeep.proofs.expiring.delete_expired.Goals as goal
 

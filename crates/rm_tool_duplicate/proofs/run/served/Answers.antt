@@ -1,7 +1,7 @@
 use Rattle.rm_lang_words.specs.Reading.{duplicate_of as said_of}
 use Rattle.rm_tool_duplicate.proofs.Ending.{finishes, halts, leaves-from, opened-source, opened-stays, prepared-from, untold-lines}
-use Rattle.rm_tool_duplicate.proofs.Staying.{all-then, others-after, others-of}
 use Rattle.rm_tool_duplicate.proofs.run.served.Goals as goal
+use Rattle.rm_shelf.proofs.Staying.{all-then, others-after, others-of}
 
 pub prepare-requires-clause-source : goal.prepare-requires-clause-source
 prepare-requires-clause-source g c κs within =

@@ -1,9 +1,8 @@
 -- Which blocks a backup reads of a datafile: they ascend, and are exactly those that are marked, or else all.
-use Rattle.std.specs.Option.{option_and_then, option_map_or}
+use Rattle.std.specs.Option.{option_and_then}
 use Rattle.std.proofs.Common.{◌≡◌, ◌<◌, ◌≤◌, ◌+◌, ◌∙◌, inl, inr, nat_lt, ℕ, zero, suc, List, [], ◌∷◌, Option, Some, None, Bool, true, false, cond, unwrap_or, refl, ap, sym, subst, arith, get_or, length, replicate, All, Contains}
 use Rattle.std.proofs.lemmas.{List.{length-replicate, Elements.{All-head, All-tail}}, Simd.{length-zip2}}
 use Rattle.rm_base.proofs.Members.{behind, first-or-rest, in-front, none-in}
-use Rattle.rm_live.specs.Ruled.{upto}
 use Rattle.rm_track.specs.Bitmaps.{Bitmap, Tracked, candidates_at, candidates_of, joined, oldest, tracked_at, unmarked}
 use Rattle.rm_track.specs.Bits.{IsMarked, blocks_from, either}
 
@@ -43,11 +42,6 @@ marked-block b (false ∷ ms) (suc k) is =
     let next : suc b + k ≡ b + suc k = omega arith in
     subst (Contains (blocks_from (suc b) ms)) next (marked-block (suc b) ms k is)
 
--- all blocks are those of marks that are all set
-all-blocks : (b n : ℕ) → upto b n ≡ blocks_from b (replicate n true)
-all-blocks b zero = refl
-all-blocks b (suc n) = ap (λ (ns : List ℕ). b ∷ ns) (all-blocks (suc b) n)
-
 pub all-marked : (n k : ℕ) → k < n → IsMarked (replicate n true) k
 all-marked zero k inside = absurd (omega (arith, inside))
 all-marked (suc n) zero inside = refl
@@ -56,10 +50,6 @@ all-marked (suc n) (suc k) inside = all-marked n k (omega (arith, inside))
 -- the marks of the blocks that are read, of n blocks
 abbrev pub marks_by : Option (List Bool) → ℕ → List Bool
 marks_by o n = unwrap_or o (replicate n true)
-
-pub read-by : (o : Option (List Bool)) (n : ℕ) → option_map_or (blocks_from 0) o (upto 0 n) ≡ blocks_from 0 (marks_by o n)
-read-by None n = all-blocks 0 n
-read-by (Some ms) n = refl
 
 -- Candidates
 

@@ -1,7 +1,7 @@
 -- Ids of records, ascending: each can be one, and they can be counted.
 use Rattle.std.proofs.Common.{◌≡◌, ◌≤◌, ◌<◌, ◌^◌, ℕ, List, Some, subst, arith, length, get_or, All, AllPairs, Contains}
 use Rattle.std.proofs.lemmas.List.Elements.{Contains-get_or, All-contains}
-use Rattle.rm_apply.proofs.Numbers.{few-between}
+use Rattle.rm_base.proofs.Lists.{few-between}
 use Rattle.rm_catalog.specs.declared.record.{Record.{Record}, LogEntry.{LogEntry}, PieceEntry.{PieceEntry}, SetEntry.{SetEntry}}
 use Rattle.rm_catalog.specs.declared.record.Record.TheVariants as kind
 use Rattle.rm_evidence.specs.Names.{object_id}

@@ -4,10 +4,10 @@ use Rattle.rm_base.specs.declared.block.Row.{Row}
 use Rattle.rm_catalog.specs.{Trees.{nodes}, declared.record.Record.{Record}}
 use Rattle.rm_evidence.specs.Known.{FitsPiece}
 use Rattle.rm_history.specs.{Tree.{IsThere, IsTree, end_of, reset_of}, declared.tree.Incarnation.{Incarnation}}
+use Rattle.rm_history.proofs.Segments.{within-end}
 use Rattle.rm_merge.{specs.Merge.{Meets, greater, merged, row_at}, proofs.Reaching.{merged_high}}
 use Rattle.rm_piece.specs.{Valid.{IsPiece}, declared.piece.Piece.{Piece}}
 use Rattle.rm_backup.{specs.Level1s.{IsNext, IsReached, next, start}, proofs.Chained.{reached_valid}}
-use Rattle.rm_machine.proofs.Parents.{within-end}
 
 -- a level 1 that fits the tree, and lies up to the end of its incarnation
 pub record EndsIn (tree : List Incarnation) (a : Piece) : Type 0 where

@@ -6,7 +6,7 @@ use Rattle.rm_history.{specs.declared.{tree.Incarnation.{Incarnation}, world.Swi
 use Rattle.rm_history.proofs.Owners.{owner-cases}
 use Rattle.rm_catalog_typed.specs.{Ledger.{Ledger}, LedgerFacts.{IsLedger}, Switches.{is_enabled_in, switch_of, switches_of}}
 use Rattle.rm_catalog_typed.{specs.declared.thread_switch.ThreadSwitch.{ThreadSwitch}, proofs.Trees.{Keeps, parents_below}}
-use Rattle.rm_machine.proofs.Standing.{each-get}
+use Rattle.rm_base.proofs.Standing.{each-get}
 
 -- what another incarnation owns on the path of m, below its own end, lies below the end of m
 owned-below : (tree : List Incarnation) (m g j : ℕ) → HasParentsBelow tree → 0 < m → reset_of tree m ≤ end_of tree m → owner tree m g ≡ j → g < end_of tree j → g < end_of tree m

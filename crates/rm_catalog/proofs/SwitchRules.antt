@@ -3,10 +3,9 @@ use Rattle.std.specs.Prelude.{IfSome, option_and_then}
 use Rattle.std.proofs.{Common.{◌≡◌, ◌<◌, List, Option, Some, ap, sym, subst, ◌∙◌, arith, inl, inr, Contains}, lemmas.Bool.{cases_order}}
 use Rattle.std.proofs.lemmas.Option.{same_Some}
 use Rattle.rm_catalog.specs.{Keys.{switch, switch_in}, Rules.{IsCatalog}, Switches.{switch_of, switches}, declared.record.Record.{Record}}
-use Rattle.rm_catalog.{specs.declared.record.SwitchEntry.{SwitchEntry}, proofs.Switching.{switch-rule, switch-told}}
+use Rattle.rm_catalog.{specs.declared.record.SwitchEntry.{SwitchEntry}, proofs.{Switching.{switch-rule, switch-told}, Numbering.{at-is}}}
 use Rattle.rm_catalog.specs.declared.record.Record.TheVariants as records
 use Rattle.rm_history.specs.declared.world.Switch.{Switch}
-use Rattle.rm_evidence.proofs.Found.{at-is}
 
 -- a switch's record is found by its number
 pub switch-at : (rs : List Record) (x : SwitchEntry) → IsCatalog rs → Contains rs (records.Switch x) → switch x.id rs ≡ Some x

@@ -1,6 +1,6 @@
 -- What stays of a shelf, from call to call.
 use Rattle.std.proofs.{Common.{◌≡◌, ◌≢◌, ◌⊎◌, inl, inr, ℕ, Option, Some, None, refl, ap, sym, subst, ◌∙◌}, lemmas.Bool.{cases_eq}}
-use Rattle.rm_commit.proofs.Told.{both-map, both-then}
+use Rattle.rm_base.proofs.Both.{both-map, both-then}
 use Rattle.rm_shelf.specs.Shelved.{AllStay, IsNoted, OthersStay, Same, SameBut, Shelved, under}
 
 -- where all stay, one number does

@@ -5,8 +5,7 @@ use Rattle.std.proofs.lemmas.List.Elements.{All-nil, All-cons, All-append, All-m
 use Rattle.rm_catalog.specs.{Keys.{place_of, place_of_key}, Edits.{below, above, place_of_edit, after_edit, after_edits}}
 use Rattle.rm_catalog.specs.declared.record.{Record.{Record}, Edit.{Edit, TheVariants.{Put, Drop}}}
 use Rattle.rm_catalog.proofs.Filters.{after_both, below_all, below_none, below_append, above_all, above_none, above_append}
-use Rattle.rm_catalog.proofs.{Passing.{after_append, put_last}, Unique.{Rises, all_above, middle}}
-use Rattle.rm_catalog_typed.proofs.Order.{Runs, runs-within, runs-rise}
+use Rattle.rm_catalog.proofs.{Passing.{after_append, put_last}, Unique.{Rises, all_above, middle}, Running.{Runs, runs-within, runs-rise}}
 
 -- an edit above what stands in front leaves that alone
 after_front : (e : Edit) (front rest : List Record) → All (λ r. place_of r < place_of_edit e) front → after_edit e (front ++ rest) ≡ front ++ after_edit e rest

@@ -1,8 +1,8 @@
 -- Parts under ids, one after another.
 use Rattle.std.proofs.Common.{◌≡◌, ◌<◌, ◌≤◌, ◌+◌, ◌∙◌, inl, inr, ℕ, suc, List, [], ◌∷◌, ap, sym, subst, arith, length, AllPairs, Contains}
 use Rattle.std.proofs.lemmas.List.{Elements.{All-contains}, Kept.{AllPairs-cons}}
-use Rattle.rm_base.proofs.Members.{behind, in-front, none-in, first-or-rest}
-use Rattle.rm_machine.{specs.Saving.{SitePart, with_ids}, proofs.Standing.{each-in}}
+use Rattle.rm_base.proofs.{Members.{behind, in-front, none-in, first-or-rest}, Standing.{each-in}}
+use Rattle.rm_machine.specs.Saving.{SitePart, with_ids}
 
 -- made of one of these parts, which has an id, the same for all that is made of it
 pub record IsUnderId {A : Type 0} (make : ℕ → SitePart → A) (n : ℕ) (ps : List SitePart) (y : A) : Type 1 where
