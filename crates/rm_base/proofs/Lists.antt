@@ -1,6 +1,6 @@
 -- Items of lists that are filtered, mapped, searched and read from the front.
 use Rattle.std.specs.List.{AllPairs, AllZip, list_any}
-use Rattle.std.proofs.Common.{◌≡◌, ◌∙◌, ◌⊎◌, ◌<◌, ◌+◌, inl, inr, ℕ, suc, List, [], ◌∷◌, ◌++◌, Bool, true, false, cond, Some, None, refl, ap, sym, subst, arith, filter, map, find, length, take, get_or, All, Contains}
+use Rattle.std.proofs.Common.{◌≡◌, ◌∙◌, ◌⊎◌, ◌<◌, ◌≤◌, ◌+◌, inl, inr, ℕ, zero, suc, List, [], ◌∷◌, ◌++◌, Bool, true, false, cond, Some, None, refl, ap, sym, subst, arith, filter, map, find, length, take, get_or, All, Contains}
 use Rattle.std.proofs.lemmas.Bool.{cases_Bool}
 use Rattle.std.proofs.lemmas.List.Elements.{All-contains, All-contains_itself, All-filter, Contains-append_cases, Contains-get_or, filter_passes}
 use Rattle.std.proofs.{lemmas.List.{Kept.{AllPairs-cons}, Folds.{Any-from_list_any, list_any-from_Any}}, Math.Seq.{take-suc}}

@@ -9,8 +9,7 @@ use Rattle.rm_catalog.specs.declared.record.{SetEntry.{SetEntry}, SetPart.{SetPa
 use Rattle.rm_catalog.specs.declared.record.Record.TheVariants as kind
 use Rattle.rm_lang_statement.specs.declared.command.BackupForm.{BackupForm}
 use Rattle.rm_history.specs.Tree.{IsThere, IsTree, end_of, is_on_path, is_within, reset_of, segment_end}
-use Rattle.rm_history.{specs.declared.tree.Incarnation.{Incarnation}, proofs.Owners.{owner-below, owner-here}}
-use Rattle.rm_history.proofs.{Paths.{is_on_path-member, path-below}, Segments.{is_within_alike}}
+use Rattle.rm_history.{specs.declared.tree.Incarnation.{Incarnation}, proofs.Segments.{within-end}}
 use Rattle.rm_catalog_typed.specs.{LedgerFacts.{IsPieceEntry, IsSetEntry, IsSetPart}, TypedCatalog.{records_of}}
 use Rattle.rm_catalog_typed.proofs.{ByKind.{is-piece, made}, Members.{piece-in, set-in}, Valid.{typed_catalog-valid}}
 use Rattle.rm_catalog_typed.proofs.Records.{database-told, tree-told}

@@ -1,6 +1,6 @@
 -- What is gathered before and after obsolete records went.
 use Rattle.std.proofs.Common.{◌≡◌, ◌<◌, ◌∙◌, ◌⊎◌, inl, inr, nat_lt, ℕ, List, [], refl, ap, sym, subst, arith, map, filter, Contains}
-use Rattle.std.proofs.lemmas.{List.Elements.{All-contains, Contains-append_cases}, Bool.{ltb-true}}
+use Rattle.std.proofs.lemmas.{List.Elements.{All-contains}, Bool.{ltb-true}}
 use Rattle.rm_base.{specs.Store.{Held}, proofs.{Members.{none-in}, Lists.{filter_from, map_from, map_to}}}
 use Rattle.rm_catalog.specs.{Keys.{part_piece}, declared.record.{PieceEntry.{PieceEntry}, Record.{Record}, SetEntry.{SetEntry}}}
 use Rattle.rm_catalog.specs.declared.record.SetPart.{SetPart}
@@ -9,7 +9,7 @@ use Rattle.rm_blocks.specs.File.{File}
 use Rattle.rm_evidence.specs.{Available.{HasPieceObject, HasSetObject}, Database.{Database, database_in, dbid_in}}
 use Rattle.rm_evidence.specs.{Gathered.{IsGathered, IsPieceAmong, IsBaseOf, IsLevel1Of, IsLogOf, placed, placed_piece}, Known.{known_of}}
 use Rattle.rm_evidence.specs.{Names.{piece_name, set_name}, Objects.{IsSetObject}, declared.evidence.Evidence.{Evidence}}
-use Rattle.rm_evidence.{specs.declared.evidence.InPlace.{InPlace}, proofs.Parts.{part-of}}
+use Rattle.rm_evidence.{specs.declared.evidence.InPlace.{InPlace}, proofs.{Backups.{base-recorded}, Parts.{part-of}}}
 use Rattle.rm_evidence.proofs.Going.{seen, IsOfGone, named_had, named_seen, named_stays}
 use Rattle.rm_history.specs.{Artefacts.{Base, Level1, Log}, declared.world.World.{World}}
 use Rattle.rm_piece.specs.{Artefacts.{base_of, level1_of}, Sets.{IsMember}, Valid.{IsPiece}, declared.{piece.Piece.{Piece}, set.Set.{Set}}}
