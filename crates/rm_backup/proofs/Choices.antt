@@ -3,11 +3,10 @@ use Rattle.std.specs.{List.{cons_option}, Option.{option_map}}
 use Rattle.std.proofs.Common.{◌≡◌, ◌∙◌, inl, inr, ℕ, List, Option, Some, None, [], ◌∷◌, ◌++◌, refl, ap, sym, subst, ◌+◌, ◌<◌, length, get_or, map, take, All, Contains}
 use Rattle.std.proofs.lemmas.{Grind.{flat_map-append}, List.{append-nil}}
 use Rattle.std.proofs.lemmas.List.Elements.{All-contains, Contains-append_cases, Contains-append_left, Contains-append_right, filter_map-append}
-use Rattle.rm_base.{specs.Choice.{ComesFirst, IsLatest}, proofs.{Lists.{map_from, map_to, take_more}, Members.{in-front, none-in}}}
+use Rattle.rm_base.{specs.Choice.{ComesFirst, IsLatest}, proofs.{Lists.{map_from, map_to, take_more, only-in}, Members.{in-front, none-in}}}
 use Rattle.rm_base.proofs.Choices.{first_itself, first_other_way, first_through}
 use Rattle.rm_catalog.specs.{Keys.{backups_in, part_piece, piece_in}, declared.record.{PieceEntry.{PieceEntry}, Record.{Record}}}
 use Rattle.rm_catalog.specs.declared.record.{Record.TheVariants.{Piece}, SetEntry.{SetEntry}, SetPart.{SetPart}}
-use Rattle.rm_evidence.proofs.Extending.{only-in}
 use Rattle.rm_backup.specs.{Looking.{IsFirstOf, TellsFirst}, Parents.{among}, Records.{pieces, told}}
 
 -- a record more that is a backup, and one that is none

@@ -7,6 +7,7 @@ pub mod Contents
 pub mod EveryStore
 pub mod Filled
 pub mod Fronts
+pub mod Gapless
 pub mod Items
 pub mod Keyed
 pub mod LastPicked

@@ -1,9 +1,10 @@
 -- Items of lists that are filtered, mapped, searched and read from the front.
 use Rattle.std.specs.List.{AllPairs, AllZip, list_any}
-use Rattle.std.proofs.Common.{◌≡◌, ◌∙◌, ◌⊎◌, ◌<◌, ◌≤◌, ◌+◌, inl, inr, ℕ, zero, suc, List, [], ◌∷◌, ◌++◌, Bool, true, false, cond, Some, None, refl, ap, sym, subst, arith, filter, map, find, length, take, get_or, All, Contains}
+use Rattle.std.proofs.Common.{◌≡◌, ◌∙◌, ◌⊎◌, ◌<◌, ◌≤◌, ◌+◌, inl, inr, ℕ, zero, suc, List, [], ◌∷◌, ◌++◌, Bool, true, false, cond, Some, None, refl, ap, sym, subst, arith, filter, map, find, length, take, get_or, All, Contains, AllPairs}
 use Rattle.std.proofs.lemmas.Bool.{cases_Bool}
 use Rattle.std.proofs.lemmas.List.Elements.{All-contains, All-contains_itself, All-filter, Contains-append_cases, Contains-get_or, filter_passes}
 use Rattle.std.proofs.{lemmas.List.{Kept.{AllPairs-cons}, Folds.{Any-from_list_any, list_any-from_Any}}, Math.Seq.{take-suc}}
+use Rattle.std.proofs.lemmas.List.{get_or-map, length-map}
 use Rattle.rm_base.proofs.Members.{in-front, behind, none-in, first-or-rest}
 
 -- what a filter keeps was there, and passes
@@ -207,3 +208,24 @@ few-between f (x ∷ xs) low (suc n) up each =
     let most = (each y (behind x xs y has)).1 in
     (omega (arith, more, first.0), omega (arith, most))) in
     omega (arith, rest)
+
+pub only-in : {X : Type 0} (x y : X) → Contains (x ∷ []) y → x ≡ y
+only-in x y has = elim (first-or-rest x [] y has) [
+  | inl same ↦ same
+  | inr tail ↦ absurd (none-in y tail)
+]
+
+-- what holds of all pairs of items holds of what is made of them
+pub pairs-mapped : {X Y : Type 0} (f : X → Y) (R : X → X → Type 0) (S : Y → Y → Type 0) → ((x y : X) → R x y → S (f x) (f y)) → (xs : List X) → AllPairs R xs → AllPairs S (map f xs)
+pairs-mapped f R S to [] all = λ i j d less inside. absurd (omega arith)
+pairs-mapped f R S to (x ∷ xs) all =
+    AllPairs-cons S (f x) (map f xs)
+    (λ k d inside. let from = map_from f xs (get_or (map f xs) k d) (Contains-get_or (map f xs) k d inside) in subst (S (f x)) from.is (to x from.item (pairs-head R x xs from.item all from.held)))
+    (pairs-mapped f R S to xs (pairs-tail R x xs all))
+
+-- and what holds of what is made of them, of the items
+pub unmapped-pairs : {X Y : Type 0} (S : Y → Y → Type 0) (f : X → Y) (xs : List X) → AllPairs S (map f xs) → AllPairs (λ x y. S (f x) (f y)) xs
+unmapped-pairs S f xs all i k d less inside =
+    let lower : i < length xs = omega (arith, less, inside) in
+    subst (λ y. S (f (get_or xs i d)) y) (get_or-map f xs k d (f d) inside)
+    (subst (λ x. S x (get_or (map f xs) k (f d))) (get_or-map f xs i d (f d) lower) (all i k (f d) less (omega (arith, inside, length-map xs f))))

@@ -13,6 +13,7 @@ pub mod Passing
 pub mod Recorded
 pub mod Running
 pub mod Same
+pub mod Sides
 pub mod Stable
 pub mod SwitchNumbers
 pub mod SwitchRules

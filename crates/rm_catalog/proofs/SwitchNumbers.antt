@@ -4,9 +4,10 @@ use Rattle.std.proofs.Common.{◌≡◌, ℕ, suc, ◌+◌, ◌-◌, ◌<◌, Li
 use Rattle.std.proofs.lemmas.{Bool.{false≢true}, List.{get_or-map, length-map, Elements.{Contains-get_or}}}
 use Rattle.rm_catalog.specs.{Keys.{place, place_of, at, switch, switch_in}, Rules.{IsCatalog}, Switches.{switch_of, switches}}
 use Rattle.rm_catalog.{specs.declared.record.{SwitchEntry.{SwitchEntry}, Record.{Record}}, proofs.Numbering.{at-is, rises_catalog}}
-use Rattle.rm_catalog.proofs.Switching.{AreFound, is-switch, switch-rule}
-use Rattle.rm_catalog.proofs.{Telling.{HasNoGap, numbers-are, record-told, told-ascends, told-record}, Told.{found_is}}
+use Rattle.rm_catalog.proofs.{Switching.{AreFound, is-switch, switch-rule}, Telling.{record-told, told-ascends, told-record}}
+use Rattle.rm_catalog.proofs.Told.{found_is}
 use Rattle.rm_catalog.specs.declared.record.Record.TheVariants as records
+use Rattle.rm_base.proofs.Gapless.{HasNoGap, numbers-are}
 use Rattle.rm_history.specs.declared.world.Switch.{Switch}
 
 -- what the switches among the records say, in order

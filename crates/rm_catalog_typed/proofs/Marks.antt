@@ -3,9 +3,10 @@ use Rattle.std.specs.{Prelude.{IsSomeAnd, option_and_then}, List.{filter_map, So
 use Rattle.std.proofs.Common.{◌≡◌, ◌∙◌, ℕ, ◌+◌, ◌-◌, ◌<◌, ◌≤◌, List, length, get_or, map, Option, Some, None, refl, ap, sym, arith, Contains, AllPairs}
 use Rattle.std.proofs.lemmas.List.{get_or_default, Elements.{All-contains, Contains-get_or}, Sorted.{IsNonDecreasingBy-from_all_adjacent}}
 use Rattle.rm_catalog.specs.{Keys.{place, place_of, at, mark_in}, Facts.{MarkRule}, Rules.{IsCatalog}}
-use Rattle.rm_catalog.{specs.declared.record.{MarkEntry.{MarkEntry}, Record.{Record}}, proofs.Told.{found_is}}
-use Rattle.rm_catalog.proofs.{Telling.{record-told, HasNoGap, numbers-are}, Numbering.{obeys}}
+use Rattle.rm_catalog.{specs.declared.record.{MarkEntry.{MarkEntry}, Record.{Record}}, proofs.{Told.{found_is}, Telling.{record-told}}}
+use Rattle.rm_catalog.proofs.Numbering.{obeys}
 use Rattle.rm_catalog.specs.declared.record.Record.TheVariants as records
+use Rattle.rm_base.proofs.Gapless.{HasNoGap, numbers-are}
 use Rattle.rm_catalog_typed.specs.{Ledger.{numbered, mark_record}, Kinds.{AreSmall, IsSmall, marked_by}}
 use Rattle.rm_catalog_typed.proofs.ByKind.{is-mark, made, numbered-by, told-in-order, told-is}
 

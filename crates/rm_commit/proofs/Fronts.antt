@@ -2,9 +2,10 @@
 use Rattle.std.specs.Str.{bytes_eq}
 use Rattle.std.proofs.Common.{◌≡◌, ℕ, ◌+◌, ◌<◌, ◌++◌, false, cond, List, [], ◌∷◌, length, get_or, take, Option, refl, ap, sym, subst, ◌∙◌}
 use Rattle.std.proofs.Math.Seq.{take-length}
-use Rattle.rm_base.{specs.Store.{Held, Both, HasNow, SameBut}, proofs.{Lists.{take_more}, Both.{both-map, both-then, both-two}}}
+use Rattle.rm_base.{specs.Store.{Held, Both, HasNow, SameBut}, proofs.Lists.{take_more}}
+use Rattle.rm_base.proofs.Both.{both-map, both-then, both-two, one-put, other-name}
 use Rattle.rm_commit.specs.{Names.{HasAll, HasPuts, after_all, bytes_of, is_named, name_of}, Carrying.{PutsFront}}
-use Rattle.rm_commit.{specs.declared.commit.Object.{Object}, proofs.Named.{head-of, left-false, one-put, other-name}}
+use Rattle.rm_commit.{specs.declared.commit.Object.{Object}, proofs.Named.{head-of, left-false}}
 
 -- one item behind the others
 after-more : {X : Type 0} (name : X → List ℕ) (value : X → Option (List ℕ)) (xs : List X) (x : X) (n : List ℕ) (o : Option (List ℕ))

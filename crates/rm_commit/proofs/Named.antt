@@ -1,29 +1,13 @@
 -- What stands under a name, one item after another.
 use Rattle.std.specs.Str.{bytes_eq}
-use Rattle.std.proofs.Common.{◌≡◌, ◌≢◌, ℕ, zero, suc, ◌+◌, ◌<◌, ◌||◌, Bool, true, false, cond, List, [], ◌∷◌, length, get_or, drop, Option, refl, ap, sym, ◌∙◌, add-one, drop-cons, ◌⊎◌, inl, inr}
-use Rattle.std.proofs.lemmas.Slice.Eq.{bytes_eq-Decides}
-use Rattle.rm_base.{specs.Store.{Held, Both, HasNow, SameBut}, proofs.Both.{both-then, both-map, both-two}}
+use Rattle.std.proofs.Common.{◌≡◌, ℕ, zero, suc, ◌+◌, ◌<◌, ◌||◌, Bool, true, false, cond, List, [], ◌∷◌, length, get_or, drop, Option, refl, ap, sym, ◌∙◌, add-one, drop-cons, ◌⊎◌, inl, inr}
+use Rattle.std.proofs.lemmas.Bool.{cases_Bool}
+use Rattle.rm_base.{specs.Store.{Held, Both, HasNow, SameBut}, proofs.Both.{both-then, both-map, both-two, other-name, one-put}}
 use Rattle.rm_commit.specs.Names.{after_all, is_named, SameBeyond}
 
 -- what is left to do leads from what stands now to what stands after all
 abbrev pub Ahead : {X : Type 0} → (X → List ℕ) → (X → Option (List ℕ)) → List X → List X → Held → Held → Type 0
 Ahead name value rest xs before now = (n : List ℕ) → after_all name value rest n (now n) ≡ after_all name value xs n (before n)
-
-told : (b : Bool) → (b ≡ true) ⊎ (b ≡ false)
-told true = inl refl
-told false = inr refl
-
-pub same-name : (n m : List ℕ) → bytes_eq n m ≡ true → n ≡ m
-same-name n m e = (bytes_eq-Decides n m).0 e
-
-pub other-name : (n m : List ℕ) → bytes_eq n m ≡ false → n ≢ m
-other-name n m e is = let yes : bytes_eq n m ≡ true = (bytes_eq-Decides n m).1 is in absurd (cc)
-
-pub one-put : (now next : Held) (m n : List ℕ) (v : Option (List ℕ)) → HasNow m v now next → SameBut m now next → next n ≡ cond (bytes_eq n m) v (now n)
-one-put now next m n v at others = elim (told (bytes_eq n m)) [
-  | inl e ↦ ap next (same-name n m e) ∙ at ∙ sym (ap (λ (b : Bool). cond b v (now n)) e)
-  | inr e ↦ others n (other-name n m e) ∙ sym (ap (λ (b : Bool). cond b v (now n)) e)
-]
 
 pub head-of : {X : Type 0} (xs : List X) (i : ℕ) (x : X) → i < length xs → x ≡ get_or xs i x → drop i xs ≡ x ∷ drop (i + 1) xs
 head-of xs i x within is =

@@ -2,8 +2,8 @@
 use Rattle.std.specs.{Prelude.{AllPairs}, Str.{bytes_eq}}
 use Rattle.std.proofs.Common.{◌≡◌, ◌≢◌, ℕ, zero, suc, ◌||◌, Bool, true, false, cond, List, [], ◌∷◌, get_or, All, Option, refl, ap, ◌∙◌, arith}
 use Rattle.std.proofs.lemmas.{List.Elements.{All-head, All-tail}, Slice.Eq.{bytes_eq-Decides}}
-use Rattle.rm_base.specs.Store.{Held}
-use Rattle.rm_commit.{specs.Names.{after_all, is_named, HasAll}, proofs.Named.{same-name, unnamed-stays}}
+use Rattle.rm_base.{specs.Store.{Held}, proofs.Both.{same-name}}
+use Rattle.rm_commit.{specs.Names.{after_all, is_named, HasAll}, proofs.Named.{unnamed-stays}}
 
 -- each of the items has a name of its own
 abbrev pub AreApart : {X : Type 0} → (X → List ℕ) → List X → Type 0

@@ -1,53 +1,12 @@
 -- The edits between two lists of records, made from the greatest key on.
 use Rattle.std.specs.Prelude.{IfNone}
-use Rattle.std.proofs.Common.{◌≡◌, ℕ, ◌+◌, ◌-◌, ◌<◌, ◌≤◌, List, [], ◌∷◌, ◌++◌, Option, Some, None, length, get_or, refl, ap, sym, subst, ◌∙◌, arith, ◌⊎◌, inl, inr, All}
-use Rattle.std.proofs.lemmas.{Bool.{cases_lt}, List.{append-nil, append_assoc, get_or_default, Elements.{All-append, All-cons}}}
-use Rattle.rm_catalog.specs.{Edits.{below, above, after_edit, after_edits}, Keys.{Ascends, place_of, place_of_key}}
-use Rattle.rm_catalog.specs.declared.record.{Edit.{Edit, TheVariants.{Put, Drop}}, Key.{Key}, Record.{Record}}
-use Rattle.rm_catalog.proofs.Ascending.{ascends_after_all, ascends_front, front_below, rest_above}
-use Rattle.rm_catalog.proofs.Filters.{after_both, below_all, below_none, below_append, above_all, above_none, above_append}
+use Rattle.std.proofs.Common.{◌≡◌, ℕ, ◌+◌, ◌-◌, ◌<◌, List, [], ◌∷◌, ◌++◌, Option, Some, None, length, get_or, refl, ap, sym, subst, ◌∙◌, arith, ◌⊎◌, inl, inr, All}
+use Rattle.std.proofs.lemmas.{Bool.{cases_lt}, List.{append-nil, append_assoc, get_or_default}}
+use Rattle.rm_catalog.specs.{Edits.{below, after_edit, after_edits}, Keys.{Ascends, place_of, place_of_key}, declared.record.Edit.{Edit}}
+use Rattle.rm_catalog.specs.declared.record.{Edit.TheVariants.{Put, Drop}, Record.{Record}}
+use Rattle.rm_catalog.proofs.{Ascending.{ascends_after_all, ascends_front, front_below, rest_above}, Filters.{after_both}}
+use Rattle.rm_catalog.proofs.Sides.{put_free, put_over, drop_over}
 use Rattle.rm_control.specs.Steps.{IsStep, IsTaken, IsFree, IsReplaced}
-
--- what is left of a place between records below it and records above it
-low_of : (p : ℕ) (xs ys : List Record) → All (λ x. place_of x < p) xs → All (λ x. p ≤ place_of x) ys → below p (xs ++ ys) ≡ xs
-low_of p xs ys low high =
-    below_append p xs ys ∙ ap (λ (x : List Record). x ++ below p ys) (below_all p xs low) ∙ ap (λ (x : List Record). xs ++ x) (below_none p ys high) ∙ append-nil xs
-
-high_of : (p : ℕ) (xs ys : List Record) → All (λ x. place_of x ≤ p) xs → All (λ x. p < place_of x) ys → above p (xs ++ ys) ≡ ys
-high_of p xs ys low high =
-    above_append p xs ys ∙ ap (λ (x : List Record). x ++ above p ys) (above_none p xs low) ∙ above_all p ys high
-
-put_free : (r : Record) (xs ys : List Record) → All (λ x. place_of x < place_of r) xs → All (λ x. place_of r < place_of x) ys
-    → after_edit (Put r) (xs ++ ys) ≡ xs ++ r ∷ ys
-put_free r xs ys low high =
-    let left = low_of (place_of r) xs ys low (λ k d lt. let h = high k d lt in omega arith) in
-    let right = high_of (place_of r) xs ys (λ k d lt. let h = low k d lt in omega arith) high in
-    ap (λ (x : List Record). x ++ r ∷ above (place_of r) (xs ++ ys)) left ∙ ap (λ (x : List Record). xs ++ r ∷ x) right
-
--- the two sides of a record
-sides : (p : ℕ) (f : Record) (xs ys : List Record) → place_of f ≡ p → All (λ x. place_of x < p) xs → All (λ x. p < place_of x) ys
-    → (below p (xs ++ f ∷ ys) ≡ xs) × (above p (xs ++ f ∷ ys) ≡ ys)
-sides p f xs ys here low high = (
-  low_of p xs (f ∷ ys) low (All-cons (λ (x : Record). p ≤ place_of x) f ys (omega arith) (λ k d lt. let h = high k d lt in omega arith)),
-  ap (λ (x : List Record). above p x) (sym (append_assoc xs (f ∷ []) ys))
-      ∙ high_of p (xs ++ f ∷ []) ys (λ k d lt. upto k d lt) high,
-)
-  where
-    upto : All (λ x. place_of x ≤ p) (xs ++ f ∷ [])
-    upto = All-append (λ (x : Record). place_of x ≤ p) xs (f ∷ []) (λ k d lt. let h = low k d lt in omega arith)
-        (All-cons (λ (x : Record). place_of x ≤ p) f [] (omega arith) (λ k d lt. absurd (omega arith)))
-
-put_over : (r f : Record) (xs ys : List Record) → place_of f ≡ place_of r → All (λ x. place_of x < place_of r) xs
-    → All (λ x. place_of r < place_of x) ys → after_edit (Put r) (xs ++ f ∷ ys) ≡ xs ++ r ∷ ys
-put_over r f xs ys here low high =
-    let both = sides (place_of r) f xs ys here low high in
-    ap (λ (x : List Record). x ++ r ∷ above (place_of r) (xs ++ f ∷ ys)) both.0 ∙ ap (λ (x : List Record). xs ++ r ∷ x) both.1
-
-drop_over : (k : Key) (f : Record) (xs ys : List Record) → place_of f ≡ place_of_key k → All (λ x. place_of x < place_of_key k) xs
-    → All (λ x. place_of_key k < place_of x) ys → after_edit (Drop k) (xs ++ f ∷ ys) ≡ xs ++ ys
-drop_over k f xs ys here low high =
-    let both = sides (place_of_key k) f xs ys here low high in
-    ap (λ (x : List Record). x ++ above (place_of_key k) (xs ++ f ∷ ys)) both.0 ∙ ap (λ (x : List Record). xs ++ x) both.1
 
 -- what is left of both lists, and the records behind that both have after the edits
 pub record Stands (wanted present : List Record) (edits : List Edit) (w p : List Record) : Type 0 where

@@ -2,10 +2,10 @@
 use Rattle.std.specs.{Prelude.{◌&&◌, nat_lt}, List.{enumerate_from}, Option.{option_map}}
 use Rattle.std.proofs.Common.{◌≡◌, ◌==◌, ◌<◌, ◌+◌, ◌-◌, ◌∙◌, ℕ, true, List, [], ◌∷◌, Some, map, slice_get, Contains, sym, ap, subst, arith}
 use Rattle.std.proofs.lemmas.{Bool.Decides.{nat_tests}, Option.{same_Some, slice_get-map}}
-use Rattle.rm_base.{specs.declared.block.Change.{Change}, proofs.Lists.{map_from, map_to}}
+use Rattle.rm_base.{specs.declared.block.Change.{Change}, proofs.Lists.{map_from, map_to, pairs-mapped, unmapped-pairs}}
 use Rattle.rm_base.proofs.{Numbered.{numbered-at, numbered-of, numbers-ascend}, OneOrder.{one-order}}
 use Rattle.rm_blocks.specs.File.{File}
-use Rattle.rm_evidence.proofs.{Extending.{pairs-mapped, unmapped-pairs}, Parts.{file-at}}
+use Rattle.rm_evidence.proofs.Parts.{file-at}
 use Rattle.rm_history.specs.{Evidence.{Agrees, Evidence}, History.{IsHistory}, Tree.{owner}, World.{creation_of}}
 use Rattle.rm_history.{specs.declared.world.World.{World}, proofs.Owners.{owner-first}}
 use Rattle.rm_plan.specs.Plan.{IsFileTarget}

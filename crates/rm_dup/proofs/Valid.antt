@@ -3,7 +3,7 @@ use Rattle.std.specs.{Prelude.{sum_by}, List.{enumerate_from}, Option.{option_ma
 use Rattle.std.proofs.Common.{◌≡◌, ◌<◌, ◌≤◌, ◌+◌, ◌-◌, ◌^◌, ◌∙◌, ℕ, List, [], ◌∷◌, None, Some, length, map, get_or, slice_get, Contains, All, AllPairs, refl, ap, arith}
 use Rattle.std.proofs.lemmas.List.{length-map, Elements.{All-contains, All-map, All-nil, Contains-get_or}, FromFn.{length-enumerate_from}}
 use Rattle.std.proofs.lemmas.Option.{slice_get-get_or, slice_get-map, slice_get_within}
-use Rattle.rm_base.{specs.{Numbers.{last_scn}, declared.block.Row.{Row}}, proofs.{Lists.{map_to}, Members.{none-in}}}
+use Rattle.rm_base.{specs.{Numbers.{last_scn}, declared.block.Row.{Row}}, proofs.{Lists.{map_to, pairs-mapped}, Members.{none-in}}}
 use Rattle.rm_base.proofs.{Sealing.{length-sealed}, Slots.{all-get}, Numbered.{all-numbered, numbers-ascend}}
 use Rattle.rm_blocks.specs.File.{File}
 use Rattle.rm_catalog.specs.{Rules.{HasDatabase, IsCatalog}, Trees.{nodes}, declared.record.{LogEntry.{LogEntry}, PieceEntry.{PieceEntry}}}
@@ -13,7 +13,7 @@ use Rattle.rm_catalog_typed.specs.LedgerFacts.{AreIds, AreIncarnations, IsCreate
 use Rattle.rm_catalog_typed.proofs.{Fitted.{many}, Fresh.{one_incarnation, one_mark}, Ledgers.{datafiles-fit, incarnations}}
 use Rattle.rm_catalog_typed.proofs.Trees.{first-begins}
 use Rattle.rm_evidence.specs.{Database.{datafiles, world_of}, Known.{FitsTree, known_of}, declared.evidence.Evidence.{Evidence}}
-use Rattle.rm_evidence.proofs.{Contents.{seen-content}, Extending.{pairs-mapped}}
+use Rattle.rm_evidence.proofs.Contents.{seen-content}
 use Rattle.rm_history.specs.{Tree.{IsThere, end_of, owner, reset_of}, World.{blocks_of, creation_of}}
 use Rattle.rm_history.{specs.declared.{tree.Incarnation.{Incarnation}, world.Datafile.{Datafile}}, proofs.Highs.{high-bound, high-least}}
 use Rattle.rm_history.proofs.{Owners.{owner-first}, Worlds.{file-there}}

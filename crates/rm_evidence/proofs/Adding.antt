@@ -2,14 +2,14 @@
 use Rattle.std.specs.Prelude.{Ok, Err, Result}
 use Rattle.std.proofs.Common.{◌≡◌, ◌≢◌, ◌<◌, ℕ, List, [], ◌∷◌, ◌++◌, map, AllPairs, Contains, refl, ap, sym, subst, arith}
 use Rattle.rm_base.specs.{Store.{Held}, declared.kinds.{Bad.{Bad}, Kind.TheVariants.{Level1}, Status.TheVariants.{Available}}}
-use Rattle.rm_base.proofs.{Lists.{map_from, map_to}, Members.{in-front}}
+use Rattle.rm_base.proofs.{Lists.{map_from, map_to, only-in, pairs-mapped}, Members.{in-front}}
 use Rattle.rm_catalog.specs.declared.record.{LogEntry.{LogEntry}, PieceEntry.{PieceEntry}, SetEntry.{SetEntry}, Record.{Record}}
 use Rattle.rm_catalog.specs.declared.record.Record.TheVariants as kind
 use Rattle.rm_evidence.specs.{Available.{IsSkippedAmong}, Database.{Database}}
 use Rattle.rm_evidence.specs.Gathered.{ById, ByIdAndFile, IsBaseAmong, IsLevel1Among, IsLogOf}
 use Rattle.rm_evidence.specs.{Taking.{Adds, Extends, IsTold, with_pieces}, Names.{log_name, piece_name, set_name}}
 use Rattle.rm_evidence.specs.{Objects.{IsLogObject, IsPieceObject, IsSetObject}, declared.evidence.Evidence.{Evidence}}
-use Rattle.rm_evidence.proofs.Extending.{only-in, extends-as, extends-none, extends-one, pairs-mapped}
+use Rattle.rm_evidence.proofs.Extending.{extends-as, extends-none, extends-one}
 use Rattle.rm_evidence.proofs.Objects.{one-log, one-piece, one-set, told-one, not-both, bad-one}
 use Rattle.rm_evidence.proofs.Pieces.{bases-grown, level1s-grown, grown}
 use Rattle.rm_evidence.proofs.Records.{Counts, IsLogRecord, IsPieceRecord, IsBadRecord, base-by, base-to, level1-by, level1-to, log-by, log-to, bad-by, bad-to, only, log-counts, piece-counts, bad-counts}

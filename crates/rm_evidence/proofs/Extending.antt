@@ -1,32 +1,8 @@
 -- Lists that grow, each two items related.
-use Rattle.std.specs.Prelude.{◌↔◌}
-use Rattle.std.proofs.Common.{◌≡◌, ◌<◌, ◌⊎◌, ◌∙◌, ℕ, List, [], ◌∷◌, ◌++◌, get_or, map, AllPairs, Contains, ap, length, sym, subst, arith, inl, inr}
-use Rattle.std.proofs.lemmas.List.{append-nil, append_assoc, get_or-map, length-map}
-use Rattle.std.proofs.lemmas.List.Elements.{Contains-append_cases, Contains-append_left, Contains-append_right, Contains-get_or}
-use Rattle.std.proofs.lemmas.List.Kept.{AllPairs-cons}
-use Rattle.rm_base.proofs.{Lists.{map_from, pairs-append, pairs-head, pairs-tail}, Members.{none-in, first-or-rest}}
+use Rattle.std.{specs.Prelude.{◌↔◌}, proofs.Common.{◌≡◌, ◌⊎◌, ◌∙◌, ℕ, List, [], ◌∷◌, ◌++◌, Contains, ap, sym, subst, arith, inl, inr}}
+use Rattle.std.proofs.lemmas.List.{append-nil, append_assoc, Elements.{Contains-append_cases, Contains-append_left, Contains-append_right}}
+use Rattle.rm_base.proofs.{Lists.{pairs-append, only-in}, Members.{none-in}}
 use Rattle.rm_evidence.specs.Taking.{Extends}
-
-pub only-in : {X : Type 0} (x y : X) → Contains (x ∷ []) y → x ≡ y
-only-in x y has = elim (first-or-rest x [] y has) [
-  | inl same ↦ same
-  | inr tail ↦ absurd (none-in y tail)
-]
-
--- what holds of all pairs of items holds of what is made of them
-pub pairs-mapped : {X Y : Type 0} (f : X → Y) (R : X → X → Type 0) (S : Y → Y → Type 0) → ((x y : X) → R x y → S (f x) (f y)) → (xs : List X) → AllPairs R xs → AllPairs S (map f xs)
-pairs-mapped f R S to [] all = λ i j d less inside. absurd (omega arith)
-pairs-mapped f R S to (x ∷ xs) all =
-    AllPairs-cons S (f x) (map f xs)
-    (λ k d inside. let from = map_from f xs (get_or (map f xs) k d) (Contains-get_or (map f xs) k d inside) in subst (S (f x)) from.is (to x from.item (pairs-head R x xs from.item all from.held)))
-    (pairs-mapped f R S to xs (pairs-tail R x xs all))
-
--- and what holds of what is made of them, of the items
-pub unmapped-pairs : {X Y : Type 0} (S : Y → Y → Type 0) (f : X → Y) (xs : List X) → AllPairs S (map f xs) → AllPairs (λ x y. S (f x) (f y)) xs
-unmapped-pairs S f xs all i k d less inside =
-    let lower : i < length xs = omega (arith, less, inside) in
-    subst (λ y. S (f (get_or xs i d)) y) (get_or-map f xs k d (f d) inside)
-    (subst (λ x. S x (get_or (map f xs) k (f d))) (get_or-map f xs i d (f d) lower) (all i k (f d) less (omega (arith, inside, length-map xs f))))
 
 -- nothing is told, and nothing is added
 pub extends-none : {A : Type 0} (R : ℕ × A → ℕ × A → Type 0) (Is : ℕ → A → Type 0) (old new : List (ℕ × A)) → new ≡ old → ((id : ℕ) (a : A) → Is id a → ⊥) → Extends A R old Is new

@@ -4,10 +4,10 @@ use Rattle.std.proofs.Common.{◌≡◌, ℕ, zero, suc, ◌+◌, ◌-◌, ◌<�
 use Rattle.std.proofs.lemmas.{Bool.{false≢true}, Option.{slice_get-map, slice_get-get_or, slice_get_within, get_or_from_slice_get}}
 use Rattle.rm_catalog.specs.{Keys.{place, place_of, at, datafile, datafile_in}, Rules.{IsCatalog}}
 use Rattle.rm_catalog.{specs.declared.record.{DatafileEntry.{DatafileEntry}, Record.{Record}}, proofs.Found.{differ}}
-use Rattle.rm_catalog.proofs.{Numbering.{rises_catalog}, Told.{found_is}}
-use Rattle.rm_catalog.proofs.Telling.{told-record, record-told, told-ascends, HasNoGap, numbers-are}
+use Rattle.rm_catalog.proofs.{Numbering.{rises_catalog}, Told.{found_is}, Telling.{told-record, record-told, told-ascends}}
 use Rattle.rm_catalog.proofs.Datafiles.{is-datafile, datafile-placed, datafile-rule, datafile-at, datafile-there}
 use Rattle.rm_catalog.specs.declared.record.Record.TheVariants as records
+use Rattle.rm_base.proofs.Gapless.{HasNoGap, numbers-are}
 use Rattle.rm_history.specs.{World.{file_of}, declared.world.Datafile.{Datafile}}
 use Rattle.rm_evidence.specs.Database.{created_by, datafiles, world_of}
 

@@ -2,9 +2,8 @@
 use Rattle.std.proofs.Common.{◌≡◌, ◌≢◌, ◌∙◌, ◌<◌, ℕ, Bool, true, false, cond, not, List, [], ◌∷◌, ◌++◌, filter, map, AllPairs, Contains, ap, sym, subst, inr, refl}
 use Rattle.std.proofs.lemmas.List.{append-nil, append_assoc, Kept.{AllPairs-filter}}
 use Rattle.rm_base.specs.declared.kinds.Kind.{Kind, TheVariants.{Full, Level0, Level1, Place}}
-use Rattle.rm_base.proofs.Lists.{filter_from, filter_to, map_from, map_to}
+use Rattle.rm_base.proofs.Lists.{filter_from, filter_to, map_from, map_to, pairs-mapped}
 use Rattle.rm_evidence.specs.{Gathered.{ByIdAndFile}, Taking.{Extends, with_piece_of, with_pieces}, declared.evidence.Evidence.{Evidence}}
-use Rattle.rm_evidence.proofs.Extending.{pairs-mapped}
 use Rattle.rm_piece.specs.declared.piece.Piece.{Piece}
 
 abbrev is_level1 : Kind → Bool

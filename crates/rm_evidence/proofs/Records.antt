@@ -1,13 +1,13 @@
 -- What is so of one record, by its kind, and of records by one of them.
 use Rattle.std.proofs.Common.{◌≡◌, ◌≢◌, ℕ, List, [], ◌∷◌, Some, Contains, refl, ap, sym, subst, inl, inr}
 use Rattle.rm_base.specs.{Store.{Held}, declared.kinds.{Bad.{Bad}, Kind.TheVariants.{Level1}, Status.TheVariants.{Available}}}
-use Rattle.rm_base.proofs.Members.{in-front}
+use Rattle.rm_base.proofs.{Members.{in-front}, Lists.{only-in}}
 use Rattle.rm_catalog.specs.declared.record.{LogEntry.{LogEntry}, PieceEntry.{PieceEntry}, SetEntry.{SetEntry}, Record.{Record}}
 use Rattle.rm_catalog.specs.declared.record.Record.TheVariants as kind
 use Rattle.rm_evidence.specs.Available.{HasLogObject, HasPieceObject, HasSetObject, IsBad, IsSkippedAmong, a_log, a_piece, a_set}
 use Rattle.rm_evidence.specs.{Database.{Database}, Gathered.{IsBaseAmong, IsLevel1Among, IsLogOf, IsPieceAmong}}
 use Rattle.rm_evidence.specs.{Names.{log_name, object_id, piece_name, set_name}, Objects.{IsLogObject, IsPieceObject, IsSetObject}}
-use Rattle.rm_evidence.proofs.{Extending.{only-in}, Single.{IsOfOne}}
+use Rattle.rm_evidence.proofs.Single.{IsOfOne}
 use Rattle.rm_piece.specs.declared.{piece.Piece.{Piece}, set.{Set.{Set}, SetFile.{SetFile}}}
 use Rattle.rm_redo.specs.declared.log_file.LogFile.{LogFile}
 

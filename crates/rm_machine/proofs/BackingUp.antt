@@ -4,7 +4,7 @@ use Rattle.std.proofs.Common.{◌≡◌, ◌⊎◌, ◌<◌, ◌≤◌, ◌+◌,
 use Rattle.std.proofs.lemmas.Bool.{and_parts, cases_Bool, leb-true, ltb-false, ltb-true}
 use Rattle.std.proofs.lemmas.List.{get_or_default, length-map, length-replicate}
 use Rattle.std.proofs.lemmas.{List.Elements.{All-cons, All-head, All-nil, All-tail, All-weaker, Contains-get_or}, Option.{slice_get-get_or}}
-use Rattle.rm_base.{specs.declared.block.Row.{Row}, proofs.{Members.{in-front, none-in}, Slots.{get-index}}}
+use Rattle.rm_base.{specs.declared.block.Row.{Row}, proofs.{Members.{in-front, none-in}, Slots.{get-index}, Lists.{unmapped-pairs}}}
 use Rattle.rm_blocks.specs.File.{File, standing}
 use Rattle.rm_catalog.specs.{Objects.{IsTag}, declared.record.BaseEntry.{BaseEntry}}
 use Rattle.rm_channel.specs.{Jobs.{AreRows, Span, deeds_of}, Made.{AreThese, deed}}
@@ -31,7 +31,6 @@ use Rattle.rm_machine.proofs.{Groups.{mapped-sum}, MembersRead.{creation-by}, Ta
 use Rattle.rm_machine.proofs.BackupMarks.{count-marked, marked-same, sound-marked, unmarked-mark, with_mark}
 use Rattle.rm_machine.proofs.{PiecesRead.{AreAll, BeginsBelow, IsCheckpoint, blocks-by}, Deeds.{AllOf, WereRead, are-asked, are-read}}
 use Rattle.rm_machine.proofs.{Walk.{AreAsked, CanGoOn, HasWalked, events-same, walk}, Damaged.{damaged-same}}
-use Rattle.rm_evidence.proofs.Extending.{unmapped-pairs}
 
 -- The datafiles of a BACKUP
 

@@ -3,9 +3,9 @@ use Rattle.std.specs.{List.{flat_map}, Str.{bytes_eq}}
 use Rattle.std.proofs.Common.{◌≡◌, ◌≢◌, ◌<◌, ◌^◌, ◌∙◌, ◌++◌, ◌==◌, ◌||◌, nat_lt, inl, inr, ℕ, List, [], ◌∷◌, None, true, refl, ap, sym, subst, arith, filter, map, Contains}
 use Rattle.std.proofs.lemmas.{Bool.{cases_Bool, eqb-true, ltb-true}, List.Elements.{Contains-append_cases}}
 use Rattle.rm_base.{specs.{Store.{Held}, declared.block.Change.{Change}}, proofs.Lists.{filter_from, map_from}}
-use Rattle.rm_base.proofs.Members.{behind, first-or-rest, in-front, none-in}
+use Rattle.rm_base.proofs.{Members.{behind, first-or-rest, in-front, none-in}, Both.{same-name}}
 use Rattle.rm_catalog.specs.declared.record.{LogEntry.{LogEntry}, PieceEntry.{PieceEntry}, SetEntry.{SetEntry}}
-use Rattle.rm_commit.{specs.Names.{HasRemoves, is_named, itself, nothing}, proofs.Named.{same-name, unnamed-stays}}
+use Rattle.rm_commit.{specs.Names.{HasRemoves, is_named, itself, nothing}, proofs.Named.{unnamed-stays}}
 use Rattle.rm_catalog_typed.specs.{Ledger.{Ledger}, Changes.{higher, lower, without_one}, Facts.{IsTypedCatalog}}
 use Rattle.rm_catalog_typed.{specs.TypedCatalog.{TypedCatalog}, proofs.Lookups.{log-id-within, piece-id-within, set-id-within}}
 use Rattle.rm_catalog_typed.proofs.Deleting.{stays-one}

@@ -2,8 +2,7 @@
 use Rattle.std.specs.Str.{bytes_eq}
 use Rattle.std.proofs.Common.{◌≡◌, ◌∙◌, ◌||◌, inl, inr, ℕ, List, [], ◌∷◌, Some, true, false, ap, sym, subst, Contains}
 use Rattle.std.proofs.lemmas.{Bool.{cases_Bool, false≢true}, List.Elements.{Contains-append_left}}
-use Rattle.rm_base.proofs.Members.{behind, in-front}
-use Rattle.rm_commit.proofs.Named.{same-name}
+use Rattle.rm_base.proofs.{Members.{behind, in-front}, Both.{same-name}}
 use Rattle.rm_lang_statement.specs.declared.command.Command.TheVariants.{Cut, Damage, Remove, Rename}
 use Rattle.rm_evidence.specs.Names.{roll_name, site_name}
 use Rattle.rm_machine.specs.{Mishaps.{removal, renaming, replacement}, Step.{refusal_of}, declared.state.State.{State}}

@@ -3,8 +3,7 @@ use Rattle.std.specs.Str.{bytes_eq}
 use Rattle.std.proofs.Common.{◌≡◌, ◌∙◌, ◌++◌, ◌⊎◌, nat_le, inl, inr, ℕ, List, [], ◌∷◌, Option, Some, None, Bool, true, false, cond, refl, ap, sym, subst, Contains, length, take}
 use Rattle.std.proofs.lemmas.{Bool.{cases_Bool}, List.{append-nil, Elements.{Contains-append_left, Contains-append_right}}}
 use Rattle.rm_base.specs.{Store.{Held}, declared.{block.Change.{Change}, refusal.Refusal.{Refusal, TheVariants.{Rm12}}}}
-use Rattle.rm_base.{specs.declared.refusal.Unknown.TheVariants.{Byte}, proofs.Members.{behind, in-front}}
-use Rattle.rm_commit.proofs.Named.{same-name}
+use Rattle.rm_base.{specs.declared.refusal.Unknown.TheVariants.{Byte}, proofs.{Members.{behind, in-front}, Both.{same-name}}}
 use Rattle.rm_lang_statement.specs.declared.command.Command.TheVariants.{Cut, Damage, Remove, Rename}
 use Rattle.rm_catalog_typed.specs.Ledger.{Ledger}
 use Rattle.rm_report.specs.declared.line.Line.{Line}

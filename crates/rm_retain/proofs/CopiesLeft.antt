@@ -2,12 +2,12 @@
 use Rattle.std.proofs.Common.{◌≡◌, ◌<◌, ◌∙◌, ◌++◌, inl, inr, nat_lt, ℕ, List, [], ◌∷◌, Bool, ap, sym, subst, arith, map, filter, get_or, AllPairs, Contains}
 use Rattle.std.proofs.lemmas.{Bool.{lt-ltb, ltb-true}, List.Elements.{Contains-append_right}}
 use Rattle.rm_base.specs.{Store.{Held}, declared.kinds.Policy.{Policy}}
-use Rattle.rm_base.proofs.Lists.{filter_from, filter_to, map_from, map_to, pairs-append, pairs-head, pairs-tail}
+use Rattle.rm_base.proofs.Lists.{filter_from, filter_to, map_from, map_to, pairs-append, pairs-head, pairs-tail, only-in}
 use Rattle.rm_catalog.specs.declared.record.Record.{Record}
 use Rattle.rm_catalog.specs.declared.record.Record.TheVariants as records
-use Rattle.rm_evidence.specs.Gathered.{ByIdAndFile, IsGathered, IsBaseOf}
-use Rattle.rm_evidence.specs.{Database.{current_in, database_in, world_of}, declared.evidence.Evidence.{Evidence}}
-use Rattle.rm_evidence.{specs.declared.evidence.InPlace.{InPlace}, proofs.{Backups.{backups-ascend, base-gathered, base-recorded}, Extending.{only-in}}}
+use Rattle.rm_evidence.specs.{Gathered.{ByIdAndFile, IsGathered, IsBaseOf}, Database.{current_in, database_in, world_of}}
+use Rattle.rm_evidence.specs.declared.evidence.{Evidence.{Evidence}, InPlace.{InPlace}}
+use Rattle.rm_evidence.proofs.Backups.{backups-ascend, base-gathered, base-recorded}
 use Rattle.rm_history.specs.declared.world.World.{World}
 use Rattle.rm_piece.specs.declared.piece.Piece.{Piece}
 use Rattle.rm_retain.specs.{Chosen.{Retention, Ascend}, Obsolete.{IsNeedlessBackup}}

@@ -5,8 +5,8 @@ use Rattle.std.proofs.lemmas.{Bool.Decides.{Decides-eqb, nat_tests}, Map.Keys.{I
 use Rattle.std.proofs.lemmas.Map.Made.{AllPairs-from_IsDistinct, IsDistinct-from_AllPairs}
 use Rattle.rm_catalog.specs.{Keys.{key_of}, declared.record.Record.{Record}}
 use Rattle.rm_catalog.specs.declared.record.Record.TheVariants as records
-use Rattle.rm_base.proofs.Lists.{at_end, front_or_end, in_front_part, take_more, pairs-append}
-use Rattle.rm_evidence.{specs.Names.{object_id}, proofs.{Extending.{only-in}, Single.{AreRelated}}}
+use Rattle.rm_base.proofs.Lists.{at_end, front_or_end, in_front_part, take_more, pairs-append, only-in}
+use Rattle.rm_evidence.{specs.Names.{object_id}, proofs.Single.{AreRelated}}
 use Rattle.rm_retain.specs.{Chosen.{Retention}, Catalogued.{IsObsoleteRecord, AreObsolete}}
 
 -- a record more that is obsolete

@@ -2,8 +2,7 @@
 use Rattle.std.proofs.Common.{◌≡◌, ◌<◌, ◌≤◌, ◌+◌, ◌∙◌, ◌⊎◌, ◌==◌, ◌&&◌, ◌||◌, inl, inr, nat_lt, ℕ, List, [], ◌∷◌, ◌++◌, Bool, true, false, cond, refl, ap, sym, subst, arith, map, filter, take, drop, get_or, length, Contains}
 use Rattle.std.proofs.lemmas.Bool.{and_parts, cases_lt, eqb-true, ltb-true, or_cases, Decides.{nat_tests}}
 use Rattle.std.proofs.lemmas.List.{append-nil, map-append, take-append-drop, Elements.{filter-append}}
-use Rattle.rm_base.proofs.{Lists.{at_end, front_or_end, take_more, pairs-append}, Members.{AllPairs-front, AllPairs-last}}
-use Rattle.rm_evidence.proofs.Extending.{only-in}
+use Rattle.rm_base.proofs.{Lists.{at_end, front_or_end, take_more, pairs-append, only-in}, Members.{AllPairs-front, AllPairs-last}}
 use Rattle.rm_piece.specs.declared.piece.Piece.{Piece}
 use Rattle.rm_retain.{specs.{Catalogued.{backup_of}, Chosen.{Ascend}, declared.copies.Backup.{Backup}}, proofs.Ranks.{IsEarlier}}
 

@@ -5,11 +5,11 @@ use Rattle.std.proofs.{Math.Seq.{take-length}, lemmas.Bool.{and_parts}}
 use Rattle.std.proofs.lemmas.List.{get_or_default, get_or-take, length-take, map-append, take_more}
 use Rattle.std.proofs.lemmas.List.Elements.{All-nil, All-push, Contains-append_cases, Contains-append_left, Contains-append_right, filter-append}
 use Rattle.rm_base.specs.{Store.{Held}, declared.kinds.{Bad.{Bad}, Status.{Status, TheVariants.{Available, Expired, Unavailable}}}}
-use Rattle.rm_base.proofs.{Lists.{filter_from, filter_to, map_from, map_to}, Members.{in-front, none-in}}
+use Rattle.rm_base.proofs.{Lists.{filter_from, filter_to, map_from, map_to, only-in}, Members.{in-front, none-in}}
 use Rattle.rm_catalog.specs.declared.record.{LogEntry.{LogEntry}, Record.{Record, TheVariants.{Log, Piece, Set}}}
 use Rattle.rm_evidence.specs.{Available.{HasLogObject, IsSkippedAmong, a_log, a_piece, a_set}, Database.{Database, database_in}}
 use Rattle.rm_evidence.specs.{Gathered.{ById, IsLogOf}, Taking.{Extends, IsTold}, Names.{log_name}, Objects.{HasLogFields, IsLogObject}}
-use Rattle.rm_evidence.proofs.{Extending.{extends-none, extends-one, extends-then, only-in}, Objects.{bad-one, not-both, one-log, told-one}}
+use Rattle.rm_evidence.proofs.{Extending.{extends-none, extends-one, extends-then}, Objects.{bad-one, not-both, one-log, told-one}}
 use Rattle.rm_redo.specs.{LogFormat.{IsLogFile}, declared.log_file.LogFile.{LogFile}}
 use Rattle.rm_machine.specs.{BackupLogs.{archived_in}, Validate.{is_available}}
 use Rattle.rm_step_backup.specs.{Logs.{Adds, AreRecorded, IsAll, IsRecorded, KeepsRecords, no_database}, declared.looking.Looked.{Looked}}

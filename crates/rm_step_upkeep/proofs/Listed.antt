@@ -3,10 +3,10 @@ use Rattle.std.specs.Option.{option_and_then}
 use Rattle.std.proofs.Common.{◌≡◌, ◌<◌, ◌∙◌, ◌++◌, ℕ, List, [], ◌∷◌, Option, Some, None, cond, refl, ap, sym, subst, arith, length, map, AllPairs, Contains}
 use Rattle.std.proofs.lemmas.{List.{get_or-map, length-map}, Option.{same_Some}}
 use Rattle.rm_base.specs.{Store.{Held}, declared.kinds.{Class.{Class}, Status.{Status, TheVariants.{Available, Expired, Unavailable}}}}
-use Rattle.rm_base.proofs.{Lists.{map_from, map_to}, Members.{in-front}}
+use Rattle.rm_base.proofs.{Lists.{map_from, map_to, only-in}, Members.{in-front}}
 use Rattle.rm_apply.specs.Files.{AreExactly}
 use Rattle.rm_catalog.specs.declared.record.Record.{Record}
-use Rattle.rm_evidence.{specs.{Gathered.{Lists}, Names.{object_id}}, proofs.{Extending.{only-in}, Single.{IsOfOne}}}
+use Rattle.rm_evidence.{specs.{Gathered.{Lists}, Names.{object_id}}, proofs.Single.{IsOfOne}}
 use Rattle.rm_report.specs.declared.line.Line.TheVariants.{Deleted, DeletedCount}
 use Rattle.rm_catalog_typed.{specs.{Facts.{IsTypedCatalog}, TypedCatalog.{TypedCatalog, records_of}}, proofs.Ids.{row-id, IsId}}
 use Rattle.rm_lang_statement.specs.declared.command.Command.TheVariants.{DeleteExpired}

@@ -3,12 +3,12 @@ use Rattle.std.specs.{Prelude.{sum_by, ◌^◌, ◌-◌}, Option.{option_map_or}
 use Rattle.std.proofs.Common.{◌≡◌, ◌<◌, ◌≤◌, ◌+◌, ◌∙◌, ℕ, zero, suc, List, [], ◌∷◌, Option, Some, None, Contains, length, map, slice_get, refl, ap, sym, subst, arith, true}
 use Rattle.std.proofs.lemmas.{List.{Elements.{All-contains}, Sums.{sum_by-cons}}, Option.{slice_get_within}}
 use Rattle.rm_apply.specs.{Recover.{TellsAll, outside}, Told.{AreFilesAt, IsTold}, declared.recovering.Recovered.{Recovered}}
-use Rattle.rm_base.{specs.{Store.{Held}, declared.block.{Change.{Change}, Row.{Row}}}, proofs.Lists.{map_from, map_to}}
+use Rattle.rm_base.{specs.{Store.{Held}, declared.block.{Change.{Change}, Row.{Row}}}, proofs.Lists.{map_from, map_to, unmapped-pairs}}
 use Rattle.rm_base.proofs.{Members.{behind, in-front}, Slots.{all-get}, Standing.{each-get, each-in}}
 use Rattle.rm_blocks.specs.File.{File}
 use Rattle.rm_catalog_typed.specs.{LedgerFacts.{IsCreated}, TypedCatalog.{records_of}}
 use Rattle.rm_dup.{specs.Copies.{as_first}, proofs.{Back.{solid}, Blocks.{few-blocks}, Source.{within}}}
-use Rattle.rm_evidence.{specs.Known.{known_of}, proofs.{Contents.{seen-content}, Extending.{unmapped-pairs}}}
+use Rattle.rm_evidence.{specs.Known.{known_of}, proofs.Contents.{seen-content}}
 use Rattle.rm_history.specs.{History.{IsHistory}, State.{rows_from, states}, Tree.{IsThere, end_of, owner, reset_of}}
 use Rattle.rm_history.specs.{World.{blocks_of, exists, file_of}, declared.world.{Datafile.{Datafile}, World.{World}}}
 use Rattle.rm_machine.specs.{Recovery.{AreMadeAt, file_at, in_place}, Sound.{IsSound}, State.{current_of, ledger, tree, world}}

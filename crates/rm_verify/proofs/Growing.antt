@@ -3,10 +3,10 @@ use Rattle.std.specs.Prelude.{IsPermutation}
 use Rattle.std.proofs.Common.{◌≡◌, ◌≢◌, ◌∙◌, ◌+◌, ◌<◌, ◌≤◌, ℕ, List, [], ◌∷◌, ◌++◌, length, get_or, take, Option, Some, None, AllPairs, Contains, refl, ap, sym, subst, arith}
 use Rattle.std.proofs.{Math.Seq.{take-length}, lemmas.List.{take_more, Sorted.{Contains-permutation, IsPermutation-sym}}}
 use Rattle.std.proofs.lemmas.Option.{same_Some}
-use Rattle.rm_base.proofs.Members.{in-front}
+use Rattle.rm_base.proofs.{Members.{in-front}, Lists.{only-in}}
 use Rattle.rm_catalog.specs.{Rules.{IsCatalog}, declared.record.Record.{Record}}
-use Rattle.rm_evidence.specs.{Gathered.{Lists}, Names.{object_id}, Taking.{Extends}}
-use Rattle.rm_evidence.proofs.{Extending.{extends-none, extends-one, only-in}, Runs.{is-apart}, Single.{IsOfOne, extends-more}}
+use Rattle.rm_evidence.{specs.{Gathered.{Lists}, Names.{object_id}, Taking.{Extends}}, proofs.Extending.{extends-none, extends-one}}
+use Rattle.rm_evidence.proofs.{Runs.{is-apart}, Single.{IsOfOne, extends-more}}
 use Rattle.rm_verify.specs.Told.{Tells, with_found}
 
 -- they have different ids

@@ -1,6 +1,7 @@
 use Rattle.std.proofs.Common.{◌∙◌, ◌<◌, ℕ, AllPairs, List, map, refl, sym, subst}
 use Rattle.rm_catalog.specs.Trees.{nodes}
-use Rattle.rm_evidence.{specs.Database.{world_of}, proofs.Extending.{unmapped-pairs}}
+use Rattle.rm_evidence.specs.Database.{world_of}
+use Rattle.rm_base.proofs.Lists.{unmapped-pairs}
 use Rattle.rm_piece.specs.declared.piece.Piece.{Piece}
 use Rattle.rm_apply.{specs.{Restore.{AreRestored}, declared.targets.TargetFile.{TargetFile}}, proofs.Numbers.{number}}
 use Rattle.rm_apply.proofs.Restorations.{chosen_in_order, same_choice}
