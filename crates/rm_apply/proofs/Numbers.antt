@@ -1,8 +1,7 @@
 -- Numbers that are exactly those that are wanted, one after the other.
-use Rattle.std.proofs.Common.{◌≡◌, ◌<◌, ◌≤◌, ◌+◌, ◌∙◌, inl, inr, ℕ, zero, suc, List, [], ◌∷◌, ◌++◌, AllPairs, Option, None, Contains, get_or, length, map, take, ap, sym, subst, arith}
+use Rattle.std.proofs.Common.{◌≡◌, ◌<◌, ◌≤◌, ◌+◌, ◌∙◌, inl, inr, ℕ, List, [], ◌∷◌, ◌++◌, Option, None, Contains, get_or, length, map, take, ap, sym, subst, arith}
 use Rattle.std.proofs.lemmas.{Bool.{cases_lt}, List.{map-append, take_more, Elements.{Contains-get_or}, Quantifiers.{all_pairs_push}}}
-use Rattle.rm_base.proofs.Lists.{at_end, few-between, front_or_end, in_front_part, pairs-head, pairs-tail}
-use Rattle.rm_base.proofs.Members.{behind, in-front}
+use Rattle.rm_base.proofs.Lists.{at_end, few-between, front_or_end, in_front_part}
 use Rattle.rm_catalog.specs.{Rules.{IsCatalog}, declared.record.Record.{Record}}
 use Rattle.rm_evidence.{specs.Database.{world_of}, proofs.Current.{file_number}}
 use Rattle.rm_history.specs.declared.world.World.{World}

@@ -1,14 +1,12 @@
 -- What is at hand, by the evidence.
 use Rattle.std.specs.{Prelude.{option_and_then}, Option.{option_map}}
-use Rattle.std.proofs.Common.{◌≡◌, ◌≢◌, ◌↔◌, ◌≤◌, ◌∙◌, inl, inr, ℕ, List, Option, Some, None, refl, ap, sym, subst, arith, eqb, map, All, Contains}
-use Rattle.std.proofs.lemmas.{Bool.{eqb-true, eq-eqb}, List.Elements.{All-contains}}
-use Rattle.std.proofs.lemmas.Option.{same_Some}
+use Rattle.std.proofs.Common.{◌≡◌, ◌≢◌, ◌↔◌, ◌≤◌, ◌∙◌, inl, inr, ℕ, List, Option, Some, None, refl, ap, sym, subst, eqb, All, Contains}
+use Rattle.std.proofs.lemmas.{Bool.{eqb-true, eq-eqb}, List.Elements.{All-contains}, Option.{same_Some}}
 use Rattle.rm_base.{specs.{Store.{Held}, declared.kinds.Kind.TheVariants.{Level1}}, proofs.Lists.{find_cases, find_none}}
 use Rattle.rm_catalog.specs.{Keys.{at, piece_in, place as place_of_id}, Rules.{IsCatalog}, declared.record.PieceEntry.{PieceEntry}}
 use Rattle.rm_catalog.{specs.declared.record.Record.{Record}, proofs.{ByKinds.{free-in}, Told.{some_is}, Numbering.{at-is, obeys}}}
 use Rattle.rm_catalog.specs.declared.record.Record.TheVariants as records
-use Rattle.rm_evidence.specs.{Available.{HasPieceObject}, Database.{database_in}}
-use Rattle.rm_evidence.specs.{Gathered.{IsGathered, IsPieceAmong}, Known.{FitsPiece}}
+use Rattle.rm_evidence.specs.{Available.{HasPieceObject}, Database.{database_in}, Gathered.{IsGathered, IsPieceAmong}, Known.{FitsPiece}}
 use Rattle.rm_evidence.{specs.declared.evidence.{Evidence.{Evidence}, InPlace.{InPlace}}, proofs.Backups.{base-gathered, base-recorded}}
 use Rattle.rm_history.specs.declared.tree.Incarnation.{Incarnation}
 use Rattle.rm_piece.{specs.declared.piece.Piece.{Piece}, proofs.Fitting.{spelling_same}}

@@ -1,5 +1,5 @@
 -- The order of blocks is one.
-use Rattle.std.proofs.Common.{◌≡◌, ◌<◌, ◌∙◌, inl, inr, arith}
+use Rattle.std.proofs.Common.{◌∙◌, inl, inr, arith}
 use Rattle.rm_base.specs.{BlockOrder.{AreInOrder}, declared.block.BlockId.{BlockId}}
 
 -- of two blocks one alone comes before the other

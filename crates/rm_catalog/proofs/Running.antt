@@ -1,6 +1,6 @@
 -- Records whose places run on: they rise strictly between two bounds, and so are in order, and each is found at its place.
 use Rattle.std.specs.{Prelude.{Contains, Some}, List.{AllPairs}}
-use Rattle.std.proofs.Common.{◌≡◌, ◌∙◌, ℕ, zero, suc, ◌+◌, ◌<◌, ◌≤◌, List, [], ◌∷◌, ◌++◌, get_or, map, All, refl, ap, arith}
+use Rattle.std.proofs.Common.{◌≡◌, ◌∙◌, ℕ, zero, suc, ◌+◌, ◌<◌, ◌≤◌, List, [], ◌∷◌, ◌++◌, get_or, map, All, ap, arith}
 use Rattle.std.proofs.lemmas.List.Elements.{Contains-get_or}
 use Rattle.rm_catalog.{specs.{Keys.{place, place_of, at, InOrder}, declared.record.Record.{Record}}, proofs.Unique.{Rises, all_above}}
 use Rattle.rm_catalog.proofs.Told.{at_here, at_past}

@@ -1,9 +1,8 @@
 -- The records of a ledger ascend strictly by place.
-use Rattle.std.specs.Prelude.{Contains, Some}
-use Rattle.std.proofs.Common.{◌≡◌, ℕ, suc, ◌+◌, ◌≤◌, List, [], ◌∷◌, ◌++◌, length, map, refl, ap, arith}
+use Rattle.std.{specs.Prelude.{Contains, Some}, proofs.Common.{◌≡◌, ℕ, suc, ◌+◌, ◌≤◌, List, [], ◌∷◌, ◌++◌, length, map, refl, ap, arith}}
 use Rattle.std.proofs.lemmas.List.{length-append}
 use Rattle.rm_catalog.specs.{Keys.{place, place_of, at, InOrder}, declared.record.Record.{Record}}
-use Rattle.rm_catalog.proofs.{Running.{Runs, rises-found, rises-order, runs-append, runs-join, runs-lower, runs-objects, runs-rise}, Unique.{Rises}}
+use Rattle.rm_catalog.proofs.{Running.{Runs, rises-found, rises-order, runs-join, runs-lower, runs-objects, runs-rise}, Unique.{Rises}}
 use Rattle.rm_catalog.specs.declared.record.Record.TheVariants as kind
 use Rattle.rm_catalog_typed.specs.Ledger.{Ledger, front_records, back_records, ledger_records, numbered, incarnation_record, datafile_record, mark_record, switch_record}
 use Rattle.rm_catalog_typed.specs.LedgerFacts.{IsLedger}

@@ -1,5 +1,5 @@
 -- The records of a typed catalog are valid: those of a saved site stand among the others, of which each rule holds as before.
-use Rattle.std.specs.Prelude.{IfSome, IsSome, IsSomeAnd, MatchBool, ◌&&◌, ◌||◌, count_by, nat_le, nat_lt, option_and_then, sum_by}
+use Rattle.std.specs.Prelude.{IfSome, IsSome, IsSomeAnd, MatchBool, ◌||◌, count_by, nat_le, nat_lt, option_and_then, sum_by}
 use Rattle.std.specs.{List.{list_any}, Option.{option_map_or}}
 use Rattle.std.proofs.Common.{◌≡◌, ◌≢◌, ◌∙◌, ℕ, zero, suc, ◌+◌, ◌-◌, ◌<◌, ◌≤◌, ◌==◌, ◌⊎◌, inl, inr, Bool, false, true, cond, leb, List, [], ◌∷◌, ◌++◌, map, get_or, length, Option, Some, None, refl, ap, slice_get, sym, subst, arith, All, AllPairs, Contains, eq-eqb}
 use Rattle.std.proofs.lemmas.Bool.{and_parts, cases_Bool, cases_eq, eqb-true, false_from_ne_true, ne_eqb, true≢false, Decides.{nat_tests}}

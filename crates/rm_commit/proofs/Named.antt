@@ -1,7 +1,6 @@
 -- What stands under a name, one item after another.
 use Rattle.std.specs.Str.{bytes_eq}
-use Rattle.std.proofs.Common.{◌≡◌, ℕ, zero, suc, ◌+◌, ◌<◌, ◌||◌, Bool, true, false, cond, List, [], ◌∷◌, length, get_or, drop, Option, refl, ap, sym, ◌∙◌, add-one, drop-cons, ◌⊎◌, inl, inr}
-use Rattle.std.proofs.lemmas.Bool.{cases_Bool}
+use Rattle.std.proofs.Common.{◌≡◌, ℕ, zero, suc, ◌+◌, ◌<◌, ◌||◌, Bool, true, false, cond, List, [], ◌∷◌, length, get_or, drop, Option, refl, ap, sym, ◌∙◌, add-one, drop-cons}
 use Rattle.rm_base.{specs.Store.{Held, Both, HasNow, SameBut}, proofs.Both.{both-then, both-map, both-two, other-name, one-put}}
 use Rattle.rm_commit.specs.Names.{after_all, is_named, SameBeyond}
 

@@ -1,10 +1,10 @@
 -- Of the bases that are gathered, those under an id above 0 are backups of records: what is in place stands under 0.
 use Rattle.std.specs.Prelude.{◌↔◌}
-use Rattle.std.proofs.Common.{◌≡◌, ◌<◌, ◌++◌, inl, inr, nat_lt, ℕ, List, [], AllPairs, Contains, All, false, filter, map, sym, ap, subst, arith, ◌∙◌, Bool}
+use Rattle.std.proofs.Common.{◌≡◌, ◌<◌, ◌++◌, inl, inr, nat_lt, ℕ, List, [], AllPairs, Contains, false, filter, map, sym, ap, subst, arith, ◌∙◌, Bool}
 use Rattle.std.proofs.lemmas.Bool.Decides.{nat_tests}
-use Rattle.std.proofs.lemmas.List.Elements.{All-from_Contains, Contains-append_cases, Contains-append_right, filter-append}
+use Rattle.std.proofs.lemmas.List.Elements.{Contains-append_cases, Contains-append_right, filter-append}
 use Rattle.std.proofs.lemmas.List.Kept.{AllPairs-filter}
-use Rattle.rm_base.{specs.Store.{Held}, proofs.Lists.{filter_none, map_from}}
+use Rattle.rm_base.{specs.Store.{Held}, proofs.{Lists.{filter_none, map_from}, Standing.{each-in}}}
 use Rattle.rm_catalog.{specs.{Rules.{IsCatalog}, declared.record.Record.{Record}}, proofs.Numbering.{obeys}}
 use Rattle.rm_catalog.specs.declared.record.Record.TheVariants as kind
 use Rattle.rm_evidence.specs.Database.{database_in, dbid_in}
@@ -54,7 +54,7 @@ module _ (held : Held) (rs : List Record) (place : InPlace) (e : Evidence) (gath
   pub backups-ascend : AllPairs ByIdAndFile (filter (λ x. nat_lt 0 x.0) e.bases)
   backups-ascend =
       let p : (ℕ × Piece) → Bool = λ x. nat_lt 0 x.0 in
-      let none : filter p first ≡ [] = filter_none p first (All-from_Contains (λ x. p x ≡ false) first (λ x has.
+      let none : filter p first ≡ [] = filter_none p first (each-in (λ x. p x ≡ false) first (λ x has.
           let zero-is = (placed-under (map (placed_piece (dbid_in rs)) place.files) x.0 x.1 has).0 in grind (arith, nat_tests))) in
       let list : filter p e.bases ≡ filter p gathered.bases.rest =
           ap (filter p) gathered.bases.list ∙ filter-append p first gathered.bases.rest ∙ ap (λ (xs : List (ℕ × Piece)). xs ++ filter p gathered.bases.rest) none in

@@ -1,10 +1,10 @@
 -- The order in which a history lists its changes.
 use Rattle.std.specs.Prelude.{◌↔◌}
-use Rattle.std.proofs.Common.{◌≡◌, ◌∙◌, ◌<◌, ◌⊎◌, ◌==◌, ◌&&◌, ◌||◌, nat_lt, inl, inr, ℕ, Bool, true, false, cond, List, [], ◌∷◌, refl, ap, sym, subst, arith, slice_index_or, Contains, All, AllPairs, filter}
+use Rattle.std.proofs.Common.{◌≡◌, ◌∙◌, ◌<◌, ◌⊎◌, ◌==◌, ◌&&◌, ◌||◌, nat_lt, inl, inr, ℕ, Bool, true, false, cond, List, [], ◌∷◌, refl, sym, subst, arith, slice_index_or, Contains, AllPairs, filter}
 use Rattle.std.proofs.lemmas.{Bool.{cases_Bool, Decides.{nat_tests}}, List.Elements.{Contains-get_or}}
 use Rattle.std.proofs.lemmas.List.Kept.{AllPairs-cons, AllPairs-filter}
 use Rattle.rm_base.{specs.declared.block.{Change.{Change}, Row.{Row}}, proofs.Lists.{filter_from, filter_to, pairs-head, pairs-tail}}
-use Rattle.rm_base.proofs.{Members.{behind, first-or-rest, in-front, none-in}, OneOrder.{one-order}, Standing.{each-in}}
+use Rattle.rm_base.proofs.{Members.{behind, first-or-rest, in-front}, OneOrder.{one-order}, Standing.{each-in}}
 use Rattle.rm_history.specs.Artefacts.{Base, Level1, Log}
 use Rattle.rm_history.specs.Agrees.{BaseAgrees, ComesBefore, IsBelow, IsRow, Level1Agrees, LogAgrees, LogLists, is_of}
 use Rattle.rm_history.specs.{Evidence.{Agrees, AgreesInAnyOrder, Evidence}, History.{IsHistory, SameChanges, SamePlace}, State.{state}}

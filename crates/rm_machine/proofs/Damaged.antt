@@ -1,10 +1,11 @@
 -- The damaged blocks of a state: which changes of it, and of their list, leave them as they should be.
 use Rattle.std.specs.Option.{option_map}
-use Rattle.std.proofs.Common.{◌≡◌, ◌≢◌, ◌<◌, ◌≤◌, ◌-◌, ◌==◌, ◌&&◌, ◌∙◌, inl, inr, nat_lt, ℕ, zero, suc, Bool, true, false, cond, List, [], ◌∷◌, Option, Some, None, IsSome, refl, ap, sym, subst, arith, eqb-true, filter, length, length-set, ltb-true, slice_index_or, slice_set, All}
+use Rattle.std.proofs.Common.{◌≡◌, ◌≢◌, ◌≤◌, ◌-◌, ◌==◌, ◌&&◌, ◌∙◌, inl, inr, nat_lt, ℕ, zero, suc, Bool, true, false, cond, List, [], ◌∷◌, Option, Some, None, IsSome, refl, ap, sym, subst, arith, eqb-true, filter, length, length-set, ltb-true, slice_index_or, slice_set, All}
 use Rattle.std.proofs.lemmas.Bool.{and_parts, cases_eq, eq-eqb, or_cases, or_parts, Decides.{nat_tests}}
 use Rattle.std.proofs.lemmas.List.Elements.{All-cons, All-filter, All-head, All-nil, All-tail, All-weaker}
 use Rattle.std.proofs.lemmas.List.Kept.{AllPairs-cons, AllPairs-filter}
-use Rattle.rm_base.{specs.{BlockOrder.{AreInOrder, AscendByBlock}, declared.block.{BlockId.{BlockId}, Row.{Row}}}, proofs.BlockOrder.{order-leads}}
+use Rattle.rm_base.specs.{BlockOrder.{AreInOrder, AscendByBlock}, declared.block.{BlockId.{BlockId}, Row.{Row}}}
+use Rattle.rm_base.proofs.BlockOrder.{order-leads}
 use Rattle.rm_blocks.specs.File.{File, put}
 use Rattle.rm_catalog_typed.{specs.Facts.{IsTypedCatalog}, proofs.Trees.{Keeps}}
 use Rattle.rm_machine.specs.{Damage.{AreDamaged, IsInPlace, is_before, with_block}, Events.{with_placed_row}}

@@ -1,15 +1,14 @@
 -- Where a level 1 begins: at the checkpoint of a record that holds on the current path, and so up to now.
-use Rattle.std.specs.{List.{flat_map}, Option.{option_map_or}}
-use Rattle.std.proofs.Common.{◌≡◌, ◌≤◌, ◌∙◌, inl, inr, ℕ, List, [], ◌∷◌, Option, Some, None, Bool, true, false, ap, sym, subst, arith, MatchBool, nat_le, option_map, Contains}
-use Rattle.std.proofs.lemmas.{Bool.{and_parts, cases_lt}, List.Elements.{All-contains, Contains-append_cases}}
+use Rattle.std.specs.List.{flat_map}
+use Rattle.std.proofs.Common.{◌≡◌, ◌≤◌, ◌∙◌, inl, inr, ℕ, List, [], ◌∷◌, Option, Some, None, Bool, true, false, ap, sym, subst, arith, MatchBool, option_map, Contains}
+use Rattle.std.proofs.lemmas.{Bool.{cases_lt}, List.Elements.{All-contains, Contains-append_cases}}
 use Rattle.rm_base.proofs.{Lists.{map_from}, Members.{behind, first-or-rest, in-front, none-in}}
 use Rattle.rm_backup.specs.{Parents.{HasCopy, IsLast, among}, Records.{IsOnPath}}
 use Rattle.rm_catalog.specs.{Keys.{backups_in, part_piece, piece_in}, declared.record.{PieceEntry.{PieceEntry}, Record.{Record}}}
 use Rattle.rm_catalog.specs.declared.record.{SetEntry.{SetEntry}, SetPart.{SetPart}}
 use Rattle.rm_catalog.specs.declared.record.Record.TheVariants as kind
 use Rattle.rm_lang_statement.specs.declared.command.BackupForm.{BackupForm}
-use Rattle.rm_history.specs.Tree.{IsThere, IsTree, end_of, is_on_path, is_within, reset_of, segment_end}
-use Rattle.rm_history.{specs.declared.tree.Incarnation.{Incarnation}, proofs.Segments.{within-end}}
+use Rattle.rm_history.{specs.{Tree.{IsTree, end_of, is_within}, declared.tree.Incarnation.{Incarnation}}, proofs.Segments.{within-end}}
 use Rattle.rm_catalog_typed.specs.{LedgerFacts.{IsPieceEntry, IsSetEntry, IsSetPart}, TypedCatalog.{records_of}}
 use Rattle.rm_catalog_typed.proofs.{ByKind.{is-piece, made}, Members.{piece-in, set-in}, Valid.{typed_catalog-valid}}
 use Rattle.rm_catalog_typed.proofs.Records.{database-told, tree-told}

@@ -1,6 +1,6 @@
 -- Where what is at hand comes from: each artefact is in place, or the one of a record.
 use Rattle.std.specs.List.{filter_map}
-use Rattle.std.proofs.Common.{◌≡◌, ◌≢◌, ◌∙◌, ◌+◌, inl, inr, ℕ, List, Some, false, ap, subst, arith, map, Contains, slice_get}
+use Rattle.std.proofs.Common.{◌≡◌, ◌≢◌, ◌∙◌, ◌+◌, inl, inr, ℕ, Some, false, ap, subst, arith, map, Contains, slice_get}
 use Rattle.std.proofs.lemmas.List.Elements.{Contains-append_cases}
 use Rattle.rm_base.{specs.{Store.{Held}, declared.kinds.Kind.TheVariants.{Level1}}, proofs.{Lists.{map_from}, Standing.{present-in}}}
 use Rattle.rm_blocks.specs.File.{File}

@@ -19,7 +19,7 @@ use Rattle.rm_report.specs.declared.line.Line.{Line}
 use Rattle.rm_lang_statement.specs.declared.command.{Command.TheVariants.{RecoverCopy}, Until.{Until}}
 use Rattle.rm_machine.specs.{Effect.{Effect, LeavesObjects, Made, a_piece, done}, Machine.{DigestsTellFor, IsBorneOut, IsTrueArtefact}}
 use Rattle.rm_machine.specs.{Names.{IsObjectName}, Recover.{recover_target}}
-use Rattle.rm_machine.specs.RecoverCopy.{AreRenewed, RenewsTo, after_copies, changed, copies_gone, renewed_refusal, renewing}
+use Rattle.rm_machine.specs.RecoverCopy.{AreRenewed, RenewsTo, after_copies, copies_gone, renewed_refusal, renewing}
 use Rattle.rm_machine.specs.{Recovery.{IsAtHand, in_place}, Sound.{IsSound}, State.{ledger, tree, world}, declared.state.State.{State}}
 use Rattle.rm_machine.proofs.{Later.{borne-beside}, Renewing.{CanRenew, CanRenewAll, CanRenewTo, copy-kind, ids-left, renewed-apart}}
 use Rattle.rm_machine.proofs.Restoring.{entry-rows}

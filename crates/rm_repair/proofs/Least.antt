@@ -1,8 +1,8 @@
 -- Of blocks that ascend the first that is not determined is the least.
-use Rattle.std.proofs.Common.{◌++◌, inl, inr, ℕ, List, [], ◌∷◌, All, Contains, Result, Ok, Err, IfErr, subst, arith}
+use Rattle.std.proofs.Common.{◌++◌, inl, inr, ℕ, List, [], ◌∷◌, All, Contains, Result, Ok, Err, IfErr, subst}
 use Rattle.std.proofs.lemmas.List.Elements.{All-head, All-tail}
-use Rattle.rm_base.{specs.{BlockOrder.{AreInOrder, AscendByBlock, IsBefore}, declared.block.BlockId.{BlockId}}, proofs.BlockOrder.{order-one-way}}
-use Rattle.rm_base.proofs.{Members.{first-or-rest}, Lists.{pairs-head, pairs-tail}}
+use Rattle.rm_base.specs.{BlockOrder.{AreInOrder, AscendByBlock, IsBefore}, declared.block.BlockId.{BlockId}}
+use Rattle.rm_base.proofs.{BlockOrder.{order-one-way}, Members.{first-or-rest}, Lists.{pairs-head, pairs-tail}}
 use Rattle.rm_history.specs.{Evidence.{Evidence}, FirstGap.{IsDetermined}, declared.world.World.{World}}
 use Rattle.rm_plan.specs.{Chosen.{IsFaultOf}, declared.plan.PlanFault.{PlanFault}}
 use Rattle.rm_plan.specs.declared.plan.PlanFault.TheVariants as fault

@@ -1,5 +1,5 @@
 -- What is gathered before and after obsolete records went.
-use Rattle.std.proofs.Common.{◌≡◌, ◌<◌, ◌∙◌, ◌⊎◌, inl, inr, nat_lt, ℕ, List, [], refl, ap, sym, subst, arith, map, filter, Contains}
+use Rattle.std.proofs.Common.{◌≡◌, ◌<◌, ◌∙◌, ◌⊎◌, inl, inr, nat_lt, ℕ, List, [], refl, ap, sym, subst, map, filter, Contains}
 use Rattle.std.proofs.lemmas.{List.Elements.{All-contains}, Bool.{ltb-true}}
 use Rattle.rm_base.{specs.Store.{Held}, proofs.{Members.{none-in}, Lists.{filter_from, map_from, map_to}}}
 use Rattle.rm_catalog.specs.{Keys.{part_piece}, declared.record.{PieceEntry.{PieceEntry}, Record.{Record}, SetEntry.{SetEntry}}}

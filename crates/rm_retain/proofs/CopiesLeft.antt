@@ -1,6 +1,6 @@
 -- The copies that are gathered before and after needless records went.
-use Rattle.std.proofs.Common.{◌≡◌, ◌<◌, ◌∙◌, ◌++◌, inl, inr, nat_lt, ℕ, List, [], ◌∷◌, Bool, ap, sym, subst, arith, map, filter, get_or, AllPairs, Contains}
-use Rattle.std.proofs.lemmas.{Bool.{lt-ltb, ltb-true}, List.Elements.{Contains-append_right}}
+use Rattle.std.proofs.Common.{◌≡◌, ◌<◌, inl, inr, nat_lt, ℕ, List, [], ◌∷◌, Bool, subst, arith, map, filter, get_or, AllPairs, Contains}
+use Rattle.std.proofs.lemmas.Bool.{lt-ltb, ltb-true}
 use Rattle.rm_base.specs.{Store.{Held}, declared.kinds.Policy.{Policy}}
 use Rattle.rm_base.proofs.Lists.{filter_from, filter_to, map_from, map_to, pairs-append, pairs-head, pairs-tail, only-in}
 use Rattle.rm_catalog.specs.declared.record.Record.{Record}

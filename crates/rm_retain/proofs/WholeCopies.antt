@@ -1,6 +1,6 @@
 -- A copy that a record names has each block of its datafile.
 use Rattle.std.specs.{Prelude.{IsSomeAnd}, Option.{option_map, option_map_or}}
-use Rattle.std.proofs.Common.{◌≡◌, ◌≢◌, ◌<◌, ◌∙◌, ◌-◌, map, inl, inr, ℕ, List, length, get_or, slice_get, Option, Some, None, Contains, refl, ap, sym, subst, arith}
+use Rattle.std.proofs.Common.{◌≡◌, ◌≢◌, ◌<◌, ◌∙◌, ◌-◌, inl, inr, ℕ, List, length, get_or, slice_get, Option, Some, None, Contains, refl, ap, sym, subst, arith}
 use Rattle.std.proofs.lemmas.List.Elements.{All-contains, Contains-get_or}
 use Rattle.rm_base.specs.{Content.{zero_block}, Store.{Held}, declared.{block.Row.{Row}, kinds.Kind.{Kind}}}
 use Rattle.rm_base.specs.declared.kinds.Kind.TheVariants.{Full, Level0, Level1, Place}
@@ -8,9 +8,9 @@ use Rattle.rm_catalog.specs.{Keys.{datafile}, Objects.{FitsRows, FitsDatafile, P
 use Rattle.rm_catalog.specs.declared.record.{DatafileEntry.{DatafileEntry}, PieceEntry.{PieceEntry}, Record.{Record}}
 use Rattle.rm_catalog.proofs.Numbering.{obeys}
 use Rattle.rm_catalog.specs.declared.record.Record.TheVariants as records
-use Rattle.rm_evidence.specs.{Gathered.{IsGathered, IsPieceAmong}, Objects.{IsAsCreated}}
-use Rattle.rm_evidence.specs.{Database.{created_by, database_in, world_of}, declared.evidence.Evidence.{Evidence}}
-use Rattle.rm_evidence.{specs.declared.evidence.InPlace.{InPlace}, proofs.{Backups.{base-recorded}, Files.{file_of-is}, Parts.{file-at}}}
+use Rattle.rm_evidence.specs.{Gathered.{IsGathered, IsPieceAmong}, Objects.{IsAsCreated}, Database.{created_by, database_in, world_of}}
+use Rattle.rm_evidence.{specs.declared.evidence.{Evidence.{Evidence}, InPlace.{InPlace}}, proofs.Backups.{base-recorded}}
+use Rattle.rm_evidence.proofs.{Files.{file_of-is}, Parts.{file-at}}
 use Rattle.rm_history.specs.{World.{blocks_of}, declared.world.{Datafile.{Datafile}, World.{World}}}
 use Rattle.rm_piece.specs.{Artefacts.{base_of}, Sets.{IsMember}, Valid.{IsPiece}, declared.{piece.Piece.{Piece}, set.SetFile.{SetFile}}}
 use Rattle.rm_piece.proofs.Whole.{full, placed as rows_placed}

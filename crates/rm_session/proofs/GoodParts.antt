@@ -1,5 +1,5 @@
 -- A part that is good is the artefact that was saved.
-use Rattle.std.proofs.Common.{◌≡◌, ◌<◌, ◌∙◌, ◌==◌, ◌&&◌, inl, inr, ℕ, List, Some, None, Bool, true, sym, subst, arith, Contains, find}
+use Rattle.std.proofs.Common.{◌≡◌, ◌<◌, ◌∙◌, ◌==◌, ◌&&◌, inl, inr, ℕ, List, Some, sym, subst, arith, Contains}
 use Rattle.std.proofs.lemmas.Bool.{and_parts, eqb-true}
 use Rattle.rm_base.{specs.{Store.{Held}, declared.block.Change.{Change}}, proofs.Searched.{found-in}}
 use Rattle.rm_catalog.specs.declared.record.PartEntry.{PartEntry}

@@ -1,5 +1,5 @@
 -- What was saved is at rest.
-use Rattle.std.proofs.Common.{◌≡◌, ◌≢◌, ◌<◌, ◌+◌, ◌-◌, ◌∙◌, inl, inr, ℕ, List, [], Some, None, false, refl, ap, sym, subst, arith, Contains, slice_index_or}
+use Rattle.std.proofs.Common.{◌≡◌, ◌≢◌, ◌+◌, ◌-◌, ◌∙◌, inl, inr, ℕ, List, [], Some, None, false, refl, ap, sym, subst, arith, Contains, slice_index_or}
 use Rattle.std.proofs.lemmas.List.Elements.{All-contains, Contains-append_cases, Contains-append_left, Contains-append_right}
 use Rattle.std.proofs.lemmas.Option.{slice_get_within}
 use Rattle.rm_base.{specs.declared.block.Change.{Change}, proofs.{Slots.{index-get}, Standing.{each-in}}}

@@ -1,6 +1,6 @@
 -- What a set holds of the states at its address it holds after a step.
 use Rattle.std.specs.{Prelude.{MatchBool}, Option.{option_map_or}}
-use Rattle.std.proofs.Common.{◌≡◌, ◌<◌, ◌≤◌, ◌-◌, ◌∙◌, ◌&&◌, ◌==◌, inl, inr, nat_le, nat_lt, ℕ, List, [], ◌∷◌, Option, Some, None, is_none, Bool, true, false, cond, refl, ap, sym, subst, arith, length, AllPairs, Contains}
+use Rattle.std.proofs.Common.{◌≡◌, ◌<◌, ◌≤◌, ◌-◌, ◌∙◌, ◌&&◌, ◌==◌, inl, inr, nat_le, nat_lt, ℕ, List, [], Option, Some, None, is_none, Bool, true, false, refl, ap, sym, subst, arith, length, AllPairs, Contains}
 use Rattle.std.proofs.lemmas.{Bool.{and_parts, eqb-true, leb-true, ltb-true}, Option.{slice_get_within}, List.Elements.{All-contains}}
 use Rattle.rm_base.{specs.declared.{block.{Change.{Change}, Row.{Row}}, kinds.Kind.TheVariants.{Level1}}, proofs.Lists.{filter_from}}
 use Rattle.rm_base.proofs.Standing.{each-in}

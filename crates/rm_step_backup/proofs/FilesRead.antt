@@ -1,5 +1,5 @@
 -- What was read of datafiles, and the objects that are made of it.
-use Rattle.std.proofs.Common.{◌≡◌, ◌≤◌, ◌<◌, ◌∙◌, ◌++◌, ℕ, zero, suc, List, [], ◌∷◌, Option, Some, None, All, inl, inr, min, ap, refl, sym, subst, arith, drop, length, map, take, take_all}
+use Rattle.std.proofs.Common.{◌≡◌, ◌≤◌, ◌∙◌, ◌++◌, ℕ, zero, suc, List, [], ◌∷◌, Option, Some, None, All, inl, inr, min, ap, refl, sym, subst, arith, drop, length, map, take, take_all}
 use Rattle.std.proofs.lemmas.{Bool.{cases_lt}, List.{drop-map, drop_all, length-map, take-map}}
 use Rattle.std.proofs.lemmas.{List.Elements.{All-cons, All-head, All-nil, All-tail}, Simd.{map-map}}
 use Rattle.rm_base.{specs.declared.block.Row.{Row}, proofs.Filled.{filled-on}}

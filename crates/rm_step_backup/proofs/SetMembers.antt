@@ -1,6 +1,6 @@
 -- The members of a set are made, one after another.
-use Rattle.std.proofs.Common.{◌≡◌, ◌++◌, ℕ, List, [], ◌∷◌, All, subst, arith, get_or, length, map, refl}
-use Rattle.std.proofs.lemmas.List.{get_or-map, length-map, Elements.{All-head, All-tail}}
+use Rattle.std.proofs.{Common.{◌≡◌, ◌++◌, ℕ, List, [], ◌∷◌, All, subst, arith, map, refl}, lemmas.List.{get_or-map, length-map}}
+use Rattle.std.proofs.lemmas.List.Elements.{All-head, All-tail}
 use Rattle.rm_piece.specs.{Sets.{IsSet}, Valid.{IsPiece}, declared.set.SetFile.{SetFile}}
 use Rattle.rm_catalog_typed.specs.Ledger.{Ledger}
 use Rattle.rm_machine.specs.{MadeSets.{InSet, set_of, told_member}, declared.job.FileBackup.{FileBackup}}

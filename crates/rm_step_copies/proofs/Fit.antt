@@ -1,6 +1,6 @@
 -- Whatever the store tells: a copy that changed can be recorded, since what it was made of has the fields of its records.
 use Rattle.std.specs.{Prelude.{IfSome, IsSomeAnd, option_and_then}, Option.{option_map}}
-use Rattle.std.proofs.Common.{◌≡◌, ◌≢◌, ◌==◌, ◌<◌, ◌≤◌, ◌-◌, ◌∙◌, inl, inr, ℕ, List, Option, Some, None, Bool, true, refl, ap, sym, subst, arith, length, slice_get, All, Contains}
+use Rattle.std.proofs.Common.{◌≡◌, ◌==◌, ◌<◌, ◌≤◌, ◌-◌, ◌∙◌, inl, inr, ℕ, List, Option, Some, None, Bool, true, refl, ap, sym, subst, arith, length, slice_get, All, Contains}
 use Rattle.std.proofs.lemmas.{Bool.{eqb-true}, List.Elements.{All-contains}, Option.{same_Some}}
 use Rattle.rm_base.proofs.{Keyed.{same_item}, Lists.{find_cases}, Sealing.{length-sealed}, Standing.{each-in}}
 use Rattle.rm_backup.specs.{Level1s.{IsReached, MayBeMerged, next}, Records.{piece, pieces}}
