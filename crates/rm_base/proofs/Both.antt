@@ -1,6 +1,6 @@
 -- What is told before and after, from call to call; and what stands under each name where one was put.
 use Rattle.std.specs.Str.{bytes_eq}
-use Rattle.std.proofs.Common.{◌≡◌, Option, Some, None, subst, refl, ◌≢◌, ℕ, Bool, true, false, cond, List, [], ap, sym, ◌∙◌, inl, inr}
+use Rattle.std.proofs.Common.{◌≡◌, Option, Some, None, subst, refl, ◌≢◌, ℕ, Bool, true, false, cond, List, ap, sym, ◌∙◌, inl, inr}
 use Rattle.std.proofs.lemmas.{Bool.{cases_Bool}, Slice.Eq.{bytes_eq-Decides}}
 use Rattle.rm_base.specs.Store.{Both, Held, HasNow, SameBut}
 

@@ -1,5 +1,5 @@
 -- Items whose numbers ascend without a gap: they are 1, 2, 3 and so on.
-use Rattle.std.proofs.Common.{◌≡◌, ℕ, zero, suc, ◌+◌, ◌<◌, ◌≤◌, List, [], length, get_or, ap, ◌∙◌, arith, inl, inr, Contains, AllPairs}
+use Rattle.std.proofs.Common.{◌≡◌, ℕ, zero, suc, ◌+◌, ◌<◌, ◌≤◌, List, length, get_or, ap, ◌∙◌, arith, inl, inr, Contains, AllPairs}
 use Rattle.std.proofs.lemmas.{Bool.{cases_lt}, List.{get_or_default, Elements.{Contains-get_or}}}
 
 -- of numbers that ascend, a lower one stands before
