@@ -24,6 +24,7 @@ pub mod Enabling
 pub mod Ended
 pub mod Entries
 pub mod Exchanging
+pub mod FirstLogs
 pub mod FirstTold
 pub mod Fitting
 pub mod Following

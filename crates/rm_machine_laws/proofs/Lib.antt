@@ -1,5 +1,9 @@
+pub mod Accepted
 mod AddingDatafile
 pub mod Agreeing
+pub mod AnsweredWithout
+pub mod Answering
+pub mod Applying
 mod Archives
 mod ArchivingAll
 pub mod Asking

@@ -7,11 +7,10 @@ use Rattle.rm_catalog_typed.specs.{Ledger.{Ledger}, Switches.{is_enabled_in}, Fa
 use Rattle.rm_machine.specs.{Loading.{file_in, inc_of_first}, Sound.{AreOnline, ArePlaced, IsGone, IsOnline, IsOpen, IsPlaced, IsSound}}
 use Rattle.rm_machine.specs.{State.{has_lost, counted, is_lost, ledger, online, tree}, declared.state.State.{State}}
 use Rattle.rm_machine.proofs.{Damaged.{damaged-none}, Places.{counted-closed, counted-open}, Tracked.{tracked-fresh}, LostLogs.{lost-found}}
-use Rattle.rm_machine.proofs.OnlineParts.{online-part, told-four, told-gone, told-has}
+use Rattle.rm_machine.proofs.{OnlineParts.{online-part, told-four, told-gone, told-has}, FirstLogs.{first-is}}
 use Rattle.rm_piece.proofs.Whole.{full}
 use Rattle.rm_redo.specs.{Logs.{Logs}, Online.{IsThread, has_log}, declared.log_file.LogFile.{LogFile}}
-use Rattle.rm_session.{specs.Fit.{IsFit, IsFitFile, IsFitLog, StandNow}, proofs.Firsts.{first-is, fit-each}}
-use Rattle.rm_session.proofs.Orders.{in-order, not-level1}
+use Rattle.rm_session.{specs.Fit.{IsFit, IsFitFile, IsFitLog, StandNow}, proofs.{Firsts.{fit-each}, Orders.{in-order, not-level1}}}
 
 -- what is of a piece that fits stands there
 placed-file : (l : Ledger) (opened : Bool) (k : ℕ) (d : Datafile) (x : File) → IsFitFile l opened (k + 1) d x → IsPlaced l.tree k d x

@@ -1,9 +1,8 @@
 use Rattle.std.proofs.Common.{◌≡◌, ◌∙◌, All, IfOk, ap, map, sym, subst}
 use Rattle.rm_catalog_typed.specs.Switches.{enabled_at}
 use Rattle.rm_history.specs.Tree.{end_of}
-use Rattle.rm_machine.specs.Loading.{inc_of_first, where_of}
+use Rattle.rm_machine.{specs.Loading.{inc_of_first, where_of}, proofs.FirstLogs.{OfLog, kept-valid}}
 use Rattle.rm_redo.specs.{LogFormat.{IsLogFile}, Online.{logs_of}}
-use Rattle.rm_session.proofs.Firsts.{OfLog, kept-valid}
 use Rattle.rm_session.proofs.threads.online_of.Goals as goal
 
 pub from_logs-requires-clause-valid : goal.from_logs-requires-clause-valid

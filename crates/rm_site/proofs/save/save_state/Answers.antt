@@ -2,7 +2,8 @@ use Rattle.std.proofs.Common.{◌≡◌, ◌∙◌, List, [], ap}
 use Rattle.rm_catalog.specs.{Edits.{after_edits}, declared.record.Edit.{Edit}}
 use Rattle.rm_catalog_typed.specs.{Changes.{EditsFollow}, TypedCatalog.{TypedCatalog, records_of}}
 use Rattle.rm_machine.specs.{Damage.{without_damaged}, Saving.{with_site}, declared.state.State.{State}}
-use Rattle.rm_site.proofs.{Answering.{on-err}, Ending.{err-then, ok-then, puts-site, saves-all, stops-before, stops-saving}}
+use Rattle.rm_machine_laws.proofs.Answering.{on-err}
+use Rattle.rm_site.proofs.Ending.{err-then, ok-then, puts-site, saves-all, stops-before, stops-saving}
 use Rattle.rm_site.proofs.save.save_state.Goals as goal
 
 pub returns-in_err-objects-clause-stopped : goal.returns-in_err-objects-clause-stopped

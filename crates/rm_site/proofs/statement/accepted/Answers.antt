@@ -1,6 +1,6 @@
 use Rattle.std.proofs.Common.{◌∙◌, ap, sym}
 use Rattle.rm_machine.specs.Nature.{by_state}
-use Rattle.rm_site.proofs.Accepted.{asks_store, it-changes}
+use Rattle.rm_machine_laws.proofs.Accepted.{asks_store, it-changes}
 use Rattle.rm_site.proofs.statement.accepted.Goals as goal
 
 pub returns-in_ok-change-in-Changes-clause-answer : goal.returns-in_ok-change-in-Changes-clause-answer

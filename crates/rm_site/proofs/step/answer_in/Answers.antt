@@ -1,9 +1,8 @@
 use Rattle.std.proofs.Common.{Some, ap, refl, subst, sym}
-use Rattle.rm_site.proofs.Answering.{answered-in, back-again, begins-sound, begun, comes-refused, comes-told, handed-in, is-carried, on-err, is-halted, quiet-refused, quiet-told, refused-in, sound-again, told-in, valid-again}
+use Rattle.rm_machine_laws.proofs.Answering.{answered-in, back-again, begins-sound, begun, comes-refused, comes-told, handed-in, is-carried, on-err, is-halted, quiet-refused, quiet-told, refused-in, sound-again, told-in, valid-again}
+use Rattle.rm_machine_laws.proofs.{Applying.{ids-before, refused-applies, told-applies}, PlainLines.{done-plain, told-plain}}
 use Rattle.rm_site.proofs.{ComesOut.{out-done, out-refused, out-told}, Quiet.{done-more, done-not-quiet}}
-use Rattle.rm_site.proofs.Ids.{ids-before, refused-applies, told-applies}
 use Rattle.rm_site.proofs.step.answer_in.Goals as goal
-use Rattle.rm_machine_laws.proofs.PlainLines.{done-plain, told-plain}
 use Rattle.rm_report.{specs.Reply.{HasDates}, proofs.Plain.{plain-dated, refused-flagged, said-flagged}}
 
 pub come_to-requires-clause-sound : goal.come_to-requires-clause-sound

@@ -1,7 +1,7 @@
 use Rattle.std.proofs.{Common.{◌≡◌, ◌∙◌, None, Some, [], All, ap, refl, subst, sym, true, false}, lemmas.List.Elements.{All-cons, All-nil}}
 use Rattle.rm_machine.specs.Laws.{only_tells}
-use Rattle.rm_machine_laws.specs.Refused.{refusal_without}
-use Rattle.rm_site.proofs.{Answering.{is-carried, is-halted, is-refused, on-err}, Creating.{comes-refused, founded, founded-sound}}
+use Rattle.rm_machine_laws.{specs.Refused.{refusal_without}, proofs.Answering.{is-carried, is-halted, is-refused, on-err}}
+use Rattle.rm_machine_laws.proofs.AnsweredWithout.{comes-refused, founded, founded-sound}
 use Rattle.rm_site.proofs.{ComesOut.{out-done, out-refused}, Quiet.{not-quiet}}
 use Rattle.rm_site.proofs.step.answer_without.Goals as goal
 use Rattle.rm_report.{specs.{Reply.{IsPlain}, declared.line.Line.TheVariants.{DatabaseAt}}, proofs.Plain.{refused-flagged, said-flagged}}

@@ -1,7 +1,8 @@
 use Rattle.std.{specs.Prelude.{IfSome}, proofs.Common.{◌≡◌, ◌∙◌, ◌||◌, Option, true, false, ap, subst}}
 use Rattle.rm_machine.specs.{Marks.{lacks_ids}, declared.state.State.{State}}
 use Rattle.rm_machine_laws.{specs.{Holds.{View}, Saves.{applies}}, proofs.Safely.{deletes-safely}}
-use Rattle.rm_site.proofs.{Answering.{answered-of, steps-of, stops-of}, ComesOut.{out-of}, Contents.{has-content}, Quiet.{untouched-of}}
+use Rattle.rm_machine_laws.proofs.Answering.{answered-of, steps-of, stops-of}
+use Rattle.rm_site.proofs.{ComesOut.{out-of}, Contents.{has-content}, Quiet.{untouched-of}}
 use Rattle.rm_site.proofs.site.Site.step.Goals as goal
 
 pub answer-requires-clause-command : goal.answer-requires-clause-command

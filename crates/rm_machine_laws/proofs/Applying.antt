@@ -3,11 +3,10 @@ use Rattle.std.proofs.Common.{◌≡◌, ◌∙◌, not, true, false, List, Opti
 use Rattle.rm_base.specs.declared.refusal.Refusal.{Refusal}
 use Rattle.rm_catalog_typed.specs.TypedCatalog.{Saved, TypedCatalog}
 use Rattle.rm_lang_statement.specs.declared.command.Command.{Command}
-use Rattle.rm_machine.specs.{Comes.{DoesMore, HadIds}, Laws.{only_tells}, Marks.{lacks_ids}}
-use Rattle.rm_machine.specs.declared.{answer.Answer.{Answer, TheVariants.{Done, Told}}, handed.Handed.{Handed}, state.State.{State}}
-use Rattle.rm_machine_laws.specs.Saves.{applies}
+use Rattle.rm_machine.specs.{Comes.{DoesMore, HadIds}, Laws.{only_tells}, Marks.{lacks_ids}, declared.answer.Answer.{Answer}}
+use Rattle.rm_machine.specs.declared.{answer.Answer.TheVariants.{Done, Told}, handed.Handed.{Handed}, state.State.{State}}
+use Rattle.rm_machine_laws.{specs.Saves.{applies}, proofs.Answering.{Begins}}
 use Rattle.rm_report.specs.{Reply.{refused_by, said}, declared.line.{Line.{Line}, Reply.{Reply}}}
-use Rattle.rm_site.proofs.Answering.{Begins}
 
 -- a refusal applies nothing, and neither does what only tells
 pub refused-applies : (c : Command) (q : Refusal) (reply : Reply) → reply ≡ refused_by q → applies c reply ≡ true → ⊥

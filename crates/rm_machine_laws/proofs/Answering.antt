@@ -1,6 +1,6 @@
 -- How a statement is answered where there is a database, and over the site.
 use Rattle.std.specs.Prelude.{Result, Ok, Err, OnErr}
-use Rattle.std.proofs.Common.{◌≡◌, ◌∙◌, ◌++◌, ◌&&◌, ◌||◌, not, ℕ, Bool, List, [], Option, Some, None, true, ap, refl, sym, subst}
+use Rattle.std.proofs.Common.{◌≡◌, ◌∙◌, ◌++◌, ◌&&◌, ◌||◌, not, ℕ, Bool, List, [], Option, Some, None, true, ap, sym, subst}
 use Rattle.std.proofs.{Math.Bool.{or-false}, lemmas.List.{append-nil}}
 use Rattle.rm_base.specs.{Store.{Held}, declared.refusal.Refusal.{Refusal}}
 use Rattle.rm_catalog.specs.{Edits.{after_edits}, declared.record.{Edit.{Edit}, Record.{Record}}}
@@ -11,14 +11,13 @@ use Rattle.rm_catalog_typed.specs.{Changes.{EditsFollow, with_moment, without_sa
 use Rattle.rm_catalog_typed.specs.{TypedCatalog.{TypedCatalog, Saved, records_of}, Starting.{with_earlier}}
 use Rattle.rm_machine.specs.{Comes.{ComesTo, IsRefusedBy}, Effect.{done, refused, told}, Laws.{only_tells}, Sound.{IsSound}}
 use Rattle.rm_machine.specs.{State.{at_moment, ledger}, Step.{IsOutcome, IsOutcomeBy, IsStatement, Step, refusal_of}, Saved.{saved_names}}
-use Rattle.rm_machine.specs.declared.answer.Answer.{Answer, TheVariants.{Refused, Told, Done}}
-use Rattle.rm_machine.{specs.declared.{handed.Handed.{Handed}, state.State.{State}}, proofs.Later.{sound-later}}
+use Rattle.rm_machine.specs.declared.{answer.Answer.{Answer, TheVariants.{Refused, Told, Done}}, handed.Handed.{Handed}}
+use Rattle.rm_machine.{specs.declared.state.State.{State}, proofs.Later.{sound-later}}
 use Rattle.rm_machine_laws.specs.{Carries.{IsHanded, IsOutcomeIn}, Holds.{View, records_in}, Moments.{IsMomentIn, moment_of}}
 use Rattle.rm_machine_laws.specs.{Refused.{AnsweredBy, refusal_in}, Saves.{applies}, Steps.{IsStepAt, Steps, StepsAt}}
 use Rattle.rm_machine_laws.{specs.Stopped.{IsStopAt, Stopped, Stops, StopsAt}, proofs.Leading.{stays as keeps-sound}}
 use Rattle.rm_machine_laws.proofs.Carried.{carried-on, refused-step, told-step}
 use Rattle.rm_machine_laws.proofs.{Every.{every-leads, every-loose, every-stays, every-tells}, Halting.{halts, nothing-done}}
-use Rattle.rm_site.specs.Untouched.{AreSame}
 
 pub no_more_names : (names : List (List ℕ)) → names ≡ names ++ []
 no_more_names names = sym (append-nil names)
@@ -26,10 +25,6 @@ no_more_names names = sym (append-nil names)
 pub on-err : {T E : Type 0} (P : Type 0) (r : Result T E) → P → OnErr r P
 on-err P (Ok x) p = tt
 on-err P (Err e) p = p
-
--- nothing was done, whatever the statement
-pub still_same : {T E : Type 0} (r : Result T E) (P : Type 0) (held held' : Option Held) (kept : Option (List Record)) → held' ≡ held → OnErr r (P → AreSame held kept held' kept)
-still_same r P held held' kept same = on-err (P → AreSame held kept held' kept) r (λ p. (same, refl))
 
 -- a refusal is the one of the state, or one by what the objects hold
 answered-by : (o : Option Refusal) (c : Command) (r : Refusal) (reply : Reply) (s t : Option State) → IsRefusedBy o c (Refused r) → reply ≡ refused_by r → t ≡ s → AnsweredBy o c reply s t
