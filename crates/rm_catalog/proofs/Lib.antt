@@ -1,10 +1,13 @@
 pub mod Ascending
 pub mod ByKinds
 pub mod Counts
+pub mod Current
+pub mod DatafileNumbers
 pub mod Datafiles
 pub mod Filters
 pub mod Firsts
 pub mod Found
+pub mod Incarnations
 pub mod Lookups
 pub mod Numbering
 pub mod Owners

@@ -1,9 +1,8 @@
 -- Records whose places run on: they rise strictly between two bounds, and so are in order, and each is found at its place.
-use Rattle.std.specs.{Prelude.{Contains, Some}, List.{AllPairs}}
-use Rattle.std.proofs.Common.{◌≡◌, ◌∙◌, ℕ, zero, suc, ◌+◌, ◌<◌, ◌≤◌, List, [], ◌∷◌, ◌++◌, get_or, map, All, ap, arith}
-use Rattle.std.proofs.lemmas.List.Elements.{Contains-get_or}
-use Rattle.rm_catalog.{specs.{Keys.{place, place_of, at, InOrder}, declared.record.Record.{Record}}, proofs.Unique.{Rises, all_above}}
-use Rattle.rm_catalog.proofs.Told.{at_here, at_past}
+use Rattle.std.proofs.Common.{◌≡◌, ◌∙◌, ℕ, zero, suc, ◌+◌, ◌<◌, ◌≤◌, List, [], ◌∷◌, ◌++◌, get_or, map, All, AllPairs, Contains, Some, ap, arith, length, take, sym}
+use Rattle.std.proofs.lemmas.List.{get_or_default, get_or-take, length-take, Elements.{Contains-get_or}, Kept.{AllPairs-cons}}
+use Rattle.rm_catalog.specs.{Keys.{place, place_of, at, InOrder}, Rules.{IsCatalog}, declared.record.Record.{Record}}
+use Rattle.rm_catalog.proofs.{Unique.{Rises, all_above}, Told.{at_here, at_past}, Numbering.{rises_catalog}}
 
 -- the places rise strictly, all from `low` on and below `high`
 unfoldable pub Runs : ℕ → ℕ → List Record → Type 0
@@ -82,3 +81,24 @@ rises-found low (r ∷ rs) x up (suc k, lt, is) =
     let has : Contains rs x = (k, omega arith, is) in
     let over = all_above (place_of r + 1) rs up.1 x has in
     at_past r rs (place_of x) (λ e. omega arith) ∙ rises-found (place_of r + 1) rs x up.1 has
+
+pub places-ascend : (b : ℕ) (rs : List Record) → Rises b rs → AllPairs (λ r s. place_of r < place_of s) rs
+unfolding Rises
+places-ascend b [] up = λ i j d less inside. absurd (omega arith)
+places-ascend b (r ∷ rs) up =
+    AllPairs-cons (λ (r s : Record). place_of r < place_of s) r rs
+    (λ k d inside. let over = all_above (place_of r + 1) rs up.1 (get_or rs k d) (Contains-get_or rs k d inside) in omega arith)
+    (places-ascend (place_of r + 1) rs up.1)
+
+-- a record before stands at a lower place
+pub earlier-lower : (rs : List Record) (i : ℕ) (r x : Record) → IsCatalog rs → i < length rs → r ≡ get_or rs i r → Contains (take i rs) x → Contains rs x × (place_of x < place_of r)
+earlier-lower rs i r x c inside is has =
+    let k = has.0 in
+    let long = length-take i rs in
+    let less = has.1 in
+    let before : k < i = omega arith in
+    let here : get_or rs k x ≡ x = sym (get_or-take i rs k x before) ∙ has.2 in
+    let low = places-ascend 0 rs (rises_catalog rs c) k i x before inside in
+    let first = ap place_of here in
+    let second = ap place_of (is ∙ get_or_default rs i r x inside) in
+    ((k, omega arith, here), omega arith)

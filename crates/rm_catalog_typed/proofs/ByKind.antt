@@ -7,10 +7,10 @@ use Rattle.rm_base.proofs.Lists.{filter_none}
 use Rattle.rm_catalog.specs.Keys.{IsThere, at, base_in, datafile_in, head_in, incarnation_in, key_of, log_in, mark_in, part_in, piece_in, place, place_of, set_in, switch_in}
 use Rattle.rm_catalog.{specs.{Rules.{IsCatalog}, Trees.{node, nodes}, declared.record.Record.{Record}}, proofs.Told.{found_is}}
 use Rattle.rm_catalog.proofs.{Unique.{Rises, all_above}, Numbering.{number_is, rises_catalog}, Trees.{nodes_are}}
-use Rattle.rm_catalog.proofs.Telling.{told-ascends, told-record}
+use Rattle.rm_catalog.proofs.{Telling.{told-ascends, told-record}, DatafileNumbers.{file-number}}
 use Rattle.rm_catalog.specs.declared.record.Record.TheVariants as kind
 use Rattle.rm_catalog_typed.specs.{Ledger.{numbered, incarnation_record, datafile_record}, Kinds.{by_kind}}
-use Rattle.rm_evidence.{specs.Database.{created_by, datafiles}, proofs.Files.{datafiles-are, file-number}}
+use Rattle.rm_evidence.{specs.Database.{created_by, datafiles}, proofs.Files.{datafiles-are}}
 
 -- the number of a record's kind
 abbrev number : Record → ℕ

@@ -5,10 +5,10 @@ use Rattle.std.proofs.lemmas.{Bool.{le-leb}, List.{length-map, Elements.{All-map
 use Rattle.rm_history.specs.{Tree.{IsThere, parent_of, reset_of, end_of}, declared.world.Datafile.{Datafile}}
 use Rattle.rm_catalog.specs.{Facts.{BeginsOn, IsCreatedOn, blocks_to}, Rules.{HasDatabase, IsCatalog}, Trees.{nodes}}
 use Rattle.rm_catalog.{specs.declared.record.{DatafileEntry.{DatafileEntry}, Record.{Record}}, proofs.Trees.{few_nodes, some_node}}
-use Rattle.rm_catalog.proofs.Datafiles.{datafile-rule}
+use Rattle.rm_catalog.proofs.{Datafiles.{datafile-rule}, DatafileNumbers.{entries, entry-record, file-number}}
+use Rattle.rm_catalog.proofs.Incarnations.{entry-of, parent-is, reset-is}
 use Rattle.rm_catalog.specs.declared.record.Record.TheVariants as records
-use Rattle.rm_evidence.{specs.Database.{created_by, datafiles}, proofs.Files.{entries, datafiles-are, entry-record, file-number}}
-use Rattle.rm_evidence.proofs.DatabaseWorlds.{entry-of, parent-is, reset-is}
+use Rattle.rm_evidence.{specs.Database.{created_by, datafiles}, proofs.Files.{datafiles-are}}
 use Rattle.rm_catalog_typed.{specs.LedgerFacts.{AreDatafiles, AreIncarnations, IsBranch, IsCreated}, proofs.Told.{end-is, on-incarnation}}
 
 -- the incarnations

@@ -6,10 +6,10 @@ use Rattle.std.proofs.lemmas.List.Sums.{get_or-le-sum_by, sum_by-cons, sum_by_mo
 use Rattle.rm_catalog.specs.{Keys.{base, datafile_in, head_in, part_in, place, IsThere as HasKey}, Rules.{IsCatalog}}
 use Rattle.rm_catalog.specs.{Saved.{NamesOne, is_part_of}, declared.record.{BaseEntry.{BaseEntry}, DatafileEntry.{DatafileEntry}}}
 use Rattle.rm_catalog.{specs.declared.record.{HeadEntry.{HeadEntry}, PartEntry.{PartEntry}, Record.{Record}}, proofs.ByKinds.{free-in}}
-use Rattle.rm_catalog.proofs.{Telling.{record-told}, Datafiles.{datafile-rule}}
+use Rattle.rm_catalog.proofs.{Telling.{record-told}, Datafiles.{datafile-rule}, DatafileNumbers.{file-number}}
 use Rattle.rm_catalog.specs.declared.record.Record.TheVariants as records
 use Rattle.rm_base.proofs.Members.{in-front}
-use Rattle.rm_evidence.{specs.Database.{datafiles}, proofs.Files.{file-number}}
+use Rattle.rm_evidence.specs.Database.{datafiles}
 use Rattle.rm_catalog_typed.specs.Facts.{AreApart, IsPartEntry, IsTypedCatalog, IsSaved}
 use Rattle.rm_catalog_typed.specs.Kinds.{AreSmall, ledger_in, typed_catalog_in, saved_in}
 use Rattle.rm_catalog_typed.proofs.{ByKind.{is-datafile, is-part, made, placed, told-in-order}, Ledgers.{long}, Loads.{ledger-is}}

@@ -10,10 +10,9 @@ use Rattle.rm_catalog.specs.{Objects.{IsRange, FitsDatafile}, Rules.{IsCatalog},
 use Rattle.rm_catalog.specs.declared.record.{BaseEntry.{BaseEntry}, DatafileEntry.{DatafileEntry}, LogEntry.{LogEntry}}
 use Rattle.rm_catalog.specs.declared.record.{MarkEntry.{MarkEntry}, PieceEntry.{PieceEntry}, Record.{Record}, SetEntry.{SetEntry}}
 use Rattle.rm_catalog.{specs.declared.record.SetPart.{SetPart}, proofs.{ByKinds.{free-in}, Trees.{path_is}, Telling.{record-told}}}
-use Rattle.rm_catalog.proofs.Datafiles.{datafile-rule, datafile-there}
+use Rattle.rm_catalog.proofs.{Datafiles.{datafile-rule, datafile-there}, DatafileNumbers.{entries, entry-is}, Incarnations.{entry-of}}
 use Rattle.rm_catalog.specs.declared.record.Record.TheVariants as records
-use Rattle.rm_evidence.{specs.Database.{created_by, datafiles}, proofs.Files.{entries, datafiles-are, entry-is}}
-use Rattle.rm_evidence.proofs.DatabaseWorlds.{entry-of}
+use Rattle.rm_evidence.{specs.Database.{created_by, datafiles}, proofs.Files.{datafiles-are}}
 use Rattle.rm_catalog_typed.specs.LedgerFacts.{AreIds, AreMarks, HasMark, IsBase, IsLogEntry, IsMark, IsPieceEntry, IsSetEntry, IsSetPart, Rise}
 use Rattle.rm_catalog_typed.{specs.Kinds.{AreSmall, marked_by}, proofs.ByKind.{is-log, is-piece, is-set, made, told-in-order}}
 use Rattle.rm_catalog_typed.proofs.Lookups.{item-at}

@@ -7,12 +7,11 @@ use Rattle.rm_catalog.specs.{Facts.{BaseRule}, Objects.{LogRule, PieceRule}, Sav
 use Rattle.rm_catalog.specs.{Rules.{IsCatalog}, Trees.{nodes}, declared.record.{BaseEntry.{BaseEntry}, HeadEntry.{HeadEntry}}}
 use Rattle.rm_catalog.specs.declared.record.{IncarnationEntry.{IncarnationEntry}, LogEntry.{LogEntry}, PartEntry.{PartEntry}}
 use Rattle.rm_catalog.{specs.declared.record.{PieceEntry.{PieceEntry}, Record.{Record}, SetEntry.{SetEntry}}, proofs.Told.{found_is}}
-use Rattle.rm_catalog.proofs.{Trees.{in_tree_is}, Numbering.{at-is, obeys}}
+use Rattle.rm_catalog.proofs.{Trees.{in_tree_is}, Numbering.{at-is, obeys}, Incarnations.{found-there, reset-is}}
 use Rattle.rm_catalog.specs.declared.record.Record.TheVariants as records
 use Rattle.rm_base.proofs.Members.{first-or-rest, none-in}
 use Rattle.rm_history.specs.Tree.{IsThere, reset_of, end_of}
 use Rattle.rm_history.specs.declared.tree.Incarnation as tree
-use Rattle.rm_evidence.proofs.DatabaseWorlds.{found-there, reset-is}
 use Rattle.rm_catalog_typed.proofs.ByKind.{is-base, is-head, is-incarnation, is-log, is-part, is-piece, is-set, made, placed, told-in-order, told-is}
 
 pub log-rule : (rs : List Record) (e : LogEntry) → IsCatalog rs → Contains (filter_map log_in rs) e → LogRule rs e

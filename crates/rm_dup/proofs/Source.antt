@@ -4,9 +4,8 @@ use Rattle.std.proofs.Common.{◌≡◌, ◌≤◌, ◌∙◌, inl, inr, ℕ, Bo
 use Rattle.std.proofs.lemmas.{Bool.{cases_lt, lt-ltb, le-ltb}, Option.{none-some}}
 use Rattle.rm_base.specs.Numbers.{last_moment}
 use Rattle.rm_catalog.specs.{Facts.{BaseRule}, Keys.{base}, Rules.{HasDatabase, IsCatalog}, Switches.{began_with}}
-use Rattle.rm_catalog.specs.declared.record.{BaseEntry.{BaseEntry}, Record.{Record}}
+use Rattle.rm_catalog.{specs.declared.record.{BaseEntry.{BaseEntry}, Record.{Record}}, proofs.Current.{has_base}}
 use Rattle.rm_catalog_typed.proofs.Told.{base-rule}
-use Rattle.rm_evidence.proofs.Current.{has_base}
 use Rattle.rm_dup.specs.Entries.{moment_in}
 
 -- where no range is told, the number is in it

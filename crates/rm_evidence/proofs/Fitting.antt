@@ -6,13 +6,14 @@ use Rattle.rm_base.specs.{Store.{Held}, declared.{block.Row.{Row}, kinds.Kind.Th
 use Rattle.rm_blocks.specs.File.{IsInOrder}
 use Rattle.rm_catalog.specs.{Objects.{IsRange, LogRule, PieceRule}, Rules.{IsCatalog}, SetRules.{SetPartRule, SetRule}, Trees.{nodes}}
 use Rattle.rm_catalog.{specs.declared.record.{Record.{Record}, SetEntry.{SetEntry}, SetPart.{SetPart}}, proofs.Numbering.{obeys}}
+use Rattle.rm_catalog.proofs.Incarnations.{some-there}
 use Rattle.rm_catalog.specs.declared.record.Record.TheVariants as kind
 use Rattle.rm_history.specs.{Tree.{IsThere}, declared.world.Datafile.{Datafile}}
 use Rattle.rm_evidence.specs.Database.{Database, database_in, datafiles, dbid_in}
 use Rattle.rm_evidence.specs.Gathered.{placed, placed_piece, ById, ByIdAndFile, IsBaseOf, IsGathered, IsLevel1Of, IsLogOf, IsPieceAmong, ListsBy}
 use Rattle.rm_evidence.specs.{Known.{AreRecorded, FitsLog, FitsPiece, FitsTree, IsPartOf, IsRecorded}, Objects.{IsAsCreated, IsSetObject}}
 use Rattle.rm_evidence.specs.{Place.{FitsPlace, placed_evidence}, Taking.{HasIncarnation}, declared.evidence.Evidence.{Evidence}}
-use Rattle.rm_evidence.{specs.declared.evidence.InPlace.{InPlace}, proofs.{DatabaseWorlds.{some-there}, Parts.{part-of}}}
+use Rattle.rm_evidence.{specs.declared.evidence.InPlace.{InPlace}, proofs.Parts.{part-of}}
 use Rattle.rm_piece.specs.{Sets.{IsMember}, Valid.{IsBefore}, declared.{piece.Piece.{Piece}, set.{Set.{Set}, SetFile.{SetFile}}}}
 
 -- blocks in order ascend

@@ -7,10 +7,10 @@ use Rattle.std.proofs.lemmas.List.{Elements.{Contains-get_or, filter_map-append}
 use Rattle.std.proofs.lemmas.{List.Sorted.{Contains-permutation, IsPermutation-map, IsPermutation-sym}, Option.{same_Some}}
 use Rattle.rm_base.{specs.Store.{Held}, proofs.Lists.{map_from, map_to, pairs-head, pairs-tail, pairs-mapped}}
 use Rattle.rm_catalog.{specs.{Rules.{IsCatalog}, declared.record.Record.{Record}}, proofs.Numbering.{rises_catalog}}
-use Rattle.rm_catalog.proofs.Telling.{record-told, told-record}
+use Rattle.rm_catalog.proofs.{Telling.{record-told, told-record}, Running.{places-ascend}}
 use Rattle.rm_evidence.specs.{Database.{Database, database_in, dbid_in}, Gathered.{IsGathered}, Names.{object_id}, Place.{placed_evidence}}
 use Rattle.rm_evidence.specs.{Seen.{IsSeen}, Taking.{Adds, AreObjects, HasId, with_object}, declared.evidence.Evidence.{Evidence}}
-use Rattle.rm_evidence.{specs.declared.evidence.InPlace.{InPlace}, proofs.Runs.{adds-by_objects, adds-then, apart, gathered, places-ascend}}
+use Rattle.rm_evidence.{specs.declared.evidence.InPlace.{InPlace}, proofs.Runs.{adds-by_objects, adds-then, apart, gathered}}
 use Rattle.rm_evidence.proofs.{Seen.{adds-as, ahead-named, seen-more, seen-then}, Single.{IsAhead}}
 
 -- what is told of each two records is so related

@@ -1,11 +1,10 @@
 -- What the records of a catalog add, one after the other.
-use Rattle.std.proofs.Common.{◌≡◌, ◌≢◌, ◌∙◌, ◌+◌, ◌<◌, ℕ, List, [], ◌∷◌, ◌++◌, Some, length, get_or, take, AllPairs, Contains, refl, ap, sym, arith, inl}
-use Rattle.std.proofs.lemmas.List.{get_or_default, get_or-take, length-take, Elements.{Contains-get_or}, Kept.{AllPairs-cons}}
+use Rattle.std.proofs.Common.{◌≡◌, ◌≢◌, ◌∙◌, ◌<◌, ℕ, List, [], ◌∷◌, ◌++◌, Some, length, get_or, take, Contains, refl, ap, sym, arith, inl}
 use Rattle.std.proofs.lemmas.Option.{same_Some}
 use Rattle.rm_base.{specs.{Store.{Held}, declared.kinds.Bad.{Bad}}, proofs.Members.{none-in}}
 use Rattle.rm_catalog.specs.{Keys.{place, place_of}, Objects.{LogRule, PieceRule}, Rules.{IsCatalog}, declared.record.LogEntry.{LogEntry}}
 use Rattle.rm_catalog.{specs.declared.record.{PieceEntry.{PieceEntry}, SetEntry.{SetEntry}, Record.{Record}}, proofs.ByKinds.{free-in}}
-use Rattle.rm_catalog.proofs.{Numbering.{rises_catalog, obeys}, Told.{some_is}, Unique.{Rises, all_above}}
+use Rattle.rm_catalog.proofs.{Numbering.{obeys}, Told.{some_is}, Running.{earlier-lower}}
 use Rattle.rm_catalog.specs.declared.record.Record.TheVariants as kind
 use Rattle.rm_piece.specs.declared.piece.Piece.{Piece}
 use Rattle.rm_redo.specs.declared.log_file.LogFile.{LogFile}
@@ -15,27 +14,6 @@ use Rattle.rm_evidence.specs.{Place.{placed_evidence}, Taking.{Adds, Extends}, d
 use Rattle.rm_evidence.proofs.Extending.{extends-as, extends-none}
 use Rattle.rm_evidence.proofs.Records.{base-by, bases-single, level1-by, level1s-single, log-by, logs-single, bad-by, skipped-single}
 use Rattle.rm_evidence.proofs.Single.{AreRelated, IsAhead, IsOfOne, extends-more, same-objects}
-
-pub places-ascend : (b : ℕ) (rs : List Record) → Rises b rs → AllPairs (λ r s. place_of r < place_of s) rs
-unfolding Rises
-places-ascend b [] up = λ i j d less inside. absurd (omega arith)
-places-ascend b (r ∷ rs) up =
-    AllPairs-cons (λ (r s : Record). place_of r < place_of s) r rs
-    (λ k d inside. let over = all_above (place_of r + 1) rs up.1 (get_or rs k d) (Contains-get_or rs k d inside) in omega arith)
-    (places-ascend (place_of r + 1) rs up.1)
-
--- a record before stands at a lower place
-pub earlier-lower : (rs : List Record) (i : ℕ) (r x : Record) → IsCatalog rs → i < length rs → r ≡ get_or rs i r → Contains (take i rs) x → Contains rs x × (place_of x < place_of r)
-earlier-lower rs i r x c inside is has =
-    let k = has.0 in
-    let long = length-take i rs in
-    let less = has.1 in
-    let before : k < i = omega arith in
-    let here : get_or rs k x ≡ x = sym (get_or-take i rs k x before) ∙ has.2 in
-    let low = places-ascend 0 rs (rises_catalog rs c) k i x before inside in
-    let first = ap place_of here in
-    let second = ap place_of (is ∙ get_or_default rs i r x inside) in
-    ((k, omega arith, here), omega arith)
 
 -- objects of different kinds have different ids
 module _ (rs : List Record) (c : IsCatalog rs) where

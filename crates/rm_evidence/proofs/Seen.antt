@@ -4,13 +4,13 @@ use Rattle.std.proofs.Common.{◌≡◌, ◌≢◌, ◌∙◌, ◌<◌, ℕ, ◌
 use Rattle.std.proofs.lemmas.{Bool.{cond-true, cond-false, false_from_ne_true}, Option.{same_Some}, Slice.Eq.{bytes_eq-Decides}}
 use Rattle.rm_base.{specs.{Store.{Held}, declared.kinds.Bad.{Bad}}, proofs.Lists.{only-in}}
 use Rattle.rm_catalog.specs.{Keys.{key_of}, Rules.{IsCatalog}, declared.record.{LogEntry.{LogEntry}, PieceEntry.{PieceEntry}}}
-use Rattle.rm_catalog.specs.declared.record.{SetEntry.{SetEntry}, Record.{Record}}
+use Rattle.rm_catalog.{specs.declared.record.{SetEntry.{SetEntry}, Record.{Record}}, proofs.Running.{earlier-lower}}
 use Rattle.rm_catalog.specs.declared.record.Record.TheVariants as kind
 use Rattle.rm_evidence.specs.{Available.{IsBad, IsSkippedAmong, a_log, a_piece, a_set}, Database.{Database}}
 use Rattle.rm_evidence.specs.Gathered.{ById, ByIdAndFile, IsBaseAmong, IsLevel1Among, IsLogOf, IsPieceAmong}
 use Rattle.rm_evidence.specs.{Names.{log_name, object_id, object_name, piece_name, set_name}, Seen.{IsSeen}, Taking.{Adds, HasId, IsTold}}
 use Rattle.rm_evidence.{specs.declared.evidence.Evidence.{Evidence}, proofs.{Extending.{extends-as}, Names.{names-tell}}}
-use Rattle.rm_evidence.proofs.{Records.{LogBytes, PieceBytes, SetBytes}, Runs.{earlier-lower, is-apart}, Single.{IsAhead}}
+use Rattle.rm_evidence.proofs.{Records.{LogBytes, PieceBytes, SetBytes}, Runs.{is-apart}, Single.{IsAhead}}
 use Rattle.rm_piece.specs.declared.piece.Piece.{Piece}
 use Rattle.rm_redo.specs.declared.log_file.LogFile.{LogFile}
 

@@ -5,14 +5,13 @@ use Rattle.std.proofs.lemmas.{Bool.{cases_lt}, List.Elements.{All-contains, Cont
 use Rattle.rm_base.proofs.{Lists.{map_from}, Members.{behind, first-or-rest, in-front, none-in}}
 use Rattle.rm_backup.specs.{Parents.{HasCopy, IsLast, among}, Records.{IsOnPath}}
 use Rattle.rm_catalog.specs.{Keys.{backups_in, part_piece, piece_in}, declared.record.{PieceEntry.{PieceEntry}, Record.{Record}}}
-use Rattle.rm_catalog.specs.declared.record.{SetEntry.{SetEntry}, SetPart.{SetPart}}
+use Rattle.rm_catalog.{specs.declared.record.{SetEntry.{SetEntry}, SetPart.{SetPart}}, proofs.Incarnations.{is-tree}}
 use Rattle.rm_catalog.specs.declared.record.Record.TheVariants as kind
 use Rattle.rm_lang_statement.specs.declared.command.BackupForm.{BackupForm}
 use Rattle.rm_history.{specs.{Tree.{IsTree, end_of, is_within}, declared.tree.Incarnation.{Incarnation}}, proofs.Segments.{within-end}}
 use Rattle.rm_catalog_typed.specs.{LedgerFacts.{IsPieceEntry, IsSetEntry, IsSetPart}, TypedCatalog.{records_of}}
 use Rattle.rm_catalog_typed.proofs.{ByKind.{is-piece, made}, Members.{piece-in, set-in}, Valid.{typed_catalog-valid}}
 use Rattle.rm_catalog_typed.proofs.Records.{database-told, tree-told}
-use Rattle.rm_evidence.proofs.DatabaseWorlds.{is-tree}
 use Rattle.rm_machine.specs.{Backup.{BeginsAt, HasParent, is_level1}, Sound.{IsSound}, State.{ledger, tree, current_of, now_of}}
 use Rattle.rm_machine.specs.declared.state.State.{State}
 

@@ -7,8 +7,9 @@ use Rattle.rm_backup.specs.{Level1s.{IsReached, next}, Records.{pieces}, Renewed
 use Rattle.rm_backup.{specs.declared.renewing.Renewed.{Renewed}, proofs.{AtHand.{copy_at_hand}, Chained.{reached_agrees, reached_valid}}}
 use Rattle.rm_backup.proofs.Merges.{EndsIn, IsLast, KeepsOn, last-merge, reached-keeps}
 use Rattle.rm_catalog.specs.{Objects.{IsTag}, Rules.{IsCatalog}, Trees.{nodes}, declared.record.{PieceEntry.{PieceEntry}, Record.{Record}}}
+use Rattle.rm_catalog.proofs.Incarnations.{is-tree}
 use Rattle.rm_evidence.specs.{Available.{HasPieceObject}, Known.{FitsPiece}, Names.{roll_name, site_name}, Objects.{piece_entry}}
-use Rattle.rm_evidence.{specs.declared.evidence.Evidence.{Evidence}, proofs.{DatabaseWorlds.{is-tree}, Parts.{part-of}}}
+use Rattle.rm_evidence.{specs.declared.evidence.Evidence.{Evidence}, proofs.Parts.{part-of}}
 use Rattle.rm_history.{specs.{Tree.{IsThere, IsTree, end_of, owner}, declared.world.Datafile.{Datafile}}, proofs.Highs.{high-least}}
 use Rattle.rm_catalog_typed.specs.{LedgerFacts.{IsPieceEntry, IsSetEntry, IsSetPart}, TypedCatalog.{records_of}}
 use Rattle.rm_catalog_typed.proofs.{Members.{piece-has}, Valid.{typed_catalog-valid}, Records.{database-told, pieces-told, tree-told}}

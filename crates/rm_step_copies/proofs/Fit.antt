@@ -7,10 +7,10 @@ use Rattle.rm_backup.specs.{Level1s.{IsReached, MayBeMerged, next}, Records.{pie
 use Rattle.rm_backup.specs.{Renewed.{IsMerged, IsRenewed, TakesOver, copy_at}, declared.renewing.Renewed.{Renewed}}
 use Rattle.rm_backup.proofs.{Chained.{reached_valid}, Merges.{EndsIn, IsLast, KeepsOn, last-merge, reached-keeps}}
 use Rattle.rm_catalog.specs.{Keys.{piece_in, place, place_of}, Objects.{IsTag}, Trees.{nodes}, declared.record.PieceEntry.{PieceEntry}}
-use Rattle.rm_catalog.specs.declared.record.{Record.{Record}, SetEntry.{SetEntry}}
+use Rattle.rm_catalog.{specs.declared.record.{Record.{Record}, SetEntry.{SetEntry}}, proofs.Incarnations.{is-tree}}
 use Rattle.rm_catalog.specs.declared.record.Record.TheVariants as kind
 use Rattle.rm_evidence.specs.{Known.{AreRecorded, FitsPiece, FitsTree, IsPartOf, IsRecorded}, Objects.{HasPieceFields, piece_entry}}
-use Rattle.rm_evidence.{specs.declared.evidence.Evidence.{Evidence}, proofs.DatabaseWorlds.{is-tree}}
+use Rattle.rm_evidence.specs.declared.evidence.Evidence.{Evidence}
 use Rattle.rm_history.{specs.{Tree.{IsThere, IsTree, end_of, owner}, declared.world.Datafile.{Datafile}}, proofs.Highs.{high-least}}
 use Rattle.rm_catalog_typed.specs.{LedgerFacts.{IsPieceEntry, IsSetEntry, IsSetPart}, TypedCatalog.{records_of}}
 use Rattle.rm_catalog_typed.proofs.{Lookups.{piece-id-within}, Members.{piece-in, set-in}, Valid.{typed_catalog-valid}}

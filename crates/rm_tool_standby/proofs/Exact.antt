@@ -2,9 +2,9 @@
 use Rattle.std.proofs.Common.{◌≡◌, ◌∙◌, ℕ, List, Option, Some, subst}
 use Rattle.rm_apply.specs.{Recover.{TellsAll}, declared.recovering.Recovered.{Recovered}}
 use Rattle.rm_base.specs.{Store.{Held}, declared.block.Change.{Change}}
-use Rattle.rm_catalog.specs.declared.record.Record.{Record}
+use Rattle.rm_catalog.{specs.declared.record.Record.{Record}, proofs.Incarnations.{is-tree}}
 use Rattle.rm_catalog_typed.{specs.TypedCatalog.{records_of}, proofs.{Records.{database-told, tree-told}, Valid.{typed_catalog-valid}}}
-use Rattle.rm_evidence.{specs.Known.{known_of}, proofs.DatabaseWorlds.{is-tree}}
+use Rattle.rm_evidence.specs.Known.{known_of}
 use Rattle.rm_history.specs.{History.{IsHistory}, Tree.{IsTree}}
 use Rattle.rm_machine.specs.{Machine.{DigestsTell, IsBorneOut, IsSoundBy, Machine}, Recovery.{AreMadeAt, in_place}, Sound.{IsSound}}
 use Rattle.rm_machine.{specs.{State.{tree, world}, declared.state.State.{State}}, proofs.Told.{tells-files}}

@@ -1,5 +1,5 @@
 use Rattle.std.proofs.Common.{◌∙◌, sym}
-use Rattle.rm_evidence.proofs.Current.{has_base, current_there}
+use Rattle.rm_catalog.proofs.Current.{has_base, current_there}
 use Rattle.rm_evidence.proofs.database.current_of.Goals as goal
 
 pub unreachable-requires : goal.unreachable-requires

@@ -1,5 +1,5 @@
-use Rattle.rm_catalog.specs.Trees.{nodes}
-use Rattle.rm_evidence.{specs.Database.{current_in}, proofs.{Current.{current_is}, DatabaseWorlds.{branch_within, is-tree}}}
+use Rattle.rm_catalog.{specs.Trees.{nodes}, proofs.Incarnations.{branch_within, is-tree}}
+use Rattle.rm_evidence.{specs.Database.{current_in}, proofs.Current.{current_is}}
 use Rattle.rm_retain.proofs.Targets.{target_of}
 use Rattle.rm_retain.proofs.laws.targets_are_of_their_owners.Goals as goal
 
