@@ -1,6 +1,6 @@
 -- The datafiles of a catalog are numbered without a gap.
 use Rattle.std.specs.{Prelude.{IsSome}, List.{filter_map}}
-use Rattle.std.proofs.Common.{◌≡◌, ℕ, ◌+◌, ◌-◌, ◌<◌, List, [], length, get_or, Option, Some, None, refl, ap, sym, subst, ◌∙◌, arith, Contains, AllPairs, slice_get}
+use Rattle.std.proofs.Common.{◌≡◌, ℕ, ◌+◌, ◌-◌, ◌<◌, List, length, get_or, Option, Some, None, refl, ap, sym, subst, ◌∙◌, arith, Contains, AllPairs, slice_get}
 use Rattle.std.proofs.lemmas.{Bool.{false≢true}, Option.{slice_get-get_or, slice_get_within, get_or_from_slice_get}}
 use Rattle.rm_catalog.specs.{Keys.{place, place_of, at, datafile, datafile_in}, Rules.{IsCatalog}}
 use Rattle.rm_catalog.{specs.declared.record.{DatafileEntry.{DatafileEntry}, Record.{Record}}, proofs.Numbering.{rises_catalog}}
