@@ -55,7 +55,7 @@ module _ (held : Held) (rs : List Record) (place : InPlace) (e : Evidence) (gath
   backups-ascend =
       let p : (ℕ × Piece) → Bool = λ x. nat_lt 0 x.0 in
       let none : filter p first ≡ [] = filter_none p first (each-in (λ x. p x ≡ false) first (λ x has.
-          let zero-is = (placed-under (map (placed_piece (dbid_in rs)) place.files) x.0 x.1 has).0 in grind (arith, nat_tests))) in
+      let zero-is = (placed-under (map (placed_piece (dbid_in rs)) place.files) x.0 x.1 has).0 in grind (arith, nat_tests))) in
       let list : filter p e.bases ≡ filter p gathered.bases.rest =
-          ap (filter p) gathered.bases.list ∙ filter-append p first gathered.bases.rest ∙ ap (λ (xs : List (ℕ × Piece)). xs ++ filter p gathered.bases.rest) none in
+      ap (filter p) gathered.bases.list ∙ filter-append p first gathered.bases.rest ∙ ap (λ (xs : List (ℕ × Piece)). xs ++ filter p gathered.bases.rest) none in
       subst (AllPairs ByIdAndFile) (sym list) (AllPairs-filter ByIdAndFile p gathered.bases.rest gathered.bases.ascends)
