@@ -1,5 +1,5 @@
 -- Which events a BLOCKRECOVER has, and what the evidence tells of their rows.
-use Rattle.std.proofs.Common.{◌≡◌, ◌∙◌, ◌++◌, ◌==◌, ◌&&◌, inl, inr, ℕ, suc, List, [], ◌∷◌, Ok, Err, Result, Bool, true, false, refl, ap, sym, subst, arith, map, Contains}
+use Rattle.std.proofs.Common.{◌≡◌, ◌∙◌, ◌++◌, ◌==◌, inl, inr, ℕ, suc, List, [], ◌∷◌, Ok, Err, Result, Bool, true, false, refl, ap, sym, subst, arith, map, Contains}
 use Rattle.std.proofs.lemmas.Bool.{and_from, and_parts, eq-eqb, eqb-true, or_cases}
 use Rattle.std.proofs.lemmas.List.Elements.{Contains-append_cases, Contains-append_left}
 use Rattle.rm_base.{specs.declared.block.{BlockId.{BlockId}, Row.{Row}}, proofs.Lists.{any_to, filter_from, filter_to, map_from}}
@@ -7,11 +7,11 @@ use Rattle.rm_base.proofs.Members.{behind, first-or-rest, in-front, none-in}
 use Rattle.rm_channel.specs.{Jobs.{Deed, wrote, wrote_of}, Made.{AreThese, deed, did_by}, declared.jobs.WriteJob.{WriteJob}}
 use Rattle.rm_history.specs.{Evidence.{Evidence}, declared.world.World.{World}}
 use Rattle.rm_lang_statement.specs.declared.command.WriteForm.{WriteForm}
-use Rattle.rm_live.specs.{Ruled.{one_if}, declared.history.{Answer.{Answer, TheVariants.{Found, Mended, Wrote}}, Call.{Call}}}
-use Rattle.rm_live.specs.{Touched.{is_mend_of, is_mended}, declared.history.{Call.TheVariants.{Mend, Read, Write}, Event.{Event}, LiveFault.{LiveFault}}}
-use Rattle.rm_machine.specs.{Asked.{lists_from}, BlockRecover.{mends_of}}
-use Rattle.rm_live.proofs.Mends.{mends-itself, mends-same, mends_by}
-use Rattle.rm_machine.proofs.{Deeds.{counted, had, writes-asked}, Walk.{IsAsked}, Mending.{AreDue, IsDue, Patch}}
+use Rattle.rm_live.specs.{Ruled.{one_if}, Touched.{is_mend_of, is_mended}, declared.history.Answer.{Answer}}
+use Rattle.rm_live.specs.declared.history.{Answer.TheVariants.{Found, Mended, Wrote}, Call.{Call, TheVariants.{Mend, Read, Write}}}
+use Rattle.rm_live.{specs.declared.history.{Event.{Event}, LiveFault.{LiveFault}}, proofs.Mends.{mends-itself, mends-same, mends_by}}
+use Rattle.rm_machine.{specs.{Asked.{lists_from}, BlockRecover.{mends_of}}, proofs.{Deeds.{counted, had, writes-asked}, Walk.{IsAsked}}}
+use Rattle.rm_machine.proofs.Mending.{AreDue, IsDue, Patch}
 use Rattle.rm_plan.specs.Blocks.{AreToldRows, IsToldRow}
 
 -- the rows with the datafiles of their blocks

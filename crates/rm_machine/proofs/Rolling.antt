@@ -7,16 +7,16 @@ use Rattle.rm_base.specs.declared.{block.Row.{Row}, refusal.{Limit.TheVariants.{
 use Rattle.rm_base.proofs.{Conditions.{only-where, unless}, Slots.{get-index}}
 use Rattle.rm_blocks.specs.File.{File, standing}
 use Rattle.rm_evidence.proofs.Fitting.{ascends}
-use Rattle.rm_history.{specs.{Tree.{owner, reset_of}, World.{blocks_of}, declared.world.Datafile.{Datafile}}, proofs.Highs.{high-above}}
+use Rattle.rm_history.{specs.Tree.{owner, reset_of}, proofs.Highs.{high-above}}
 use Rattle.rm_catalog_typed.{specs.Fitting.{FitsBase}, proofs.Fitted.{base_fits}}
 use Rattle.rm_piece.specs.{Sets.{IsBeforeMember, IsMember, IsSet}, Valid.{IsBefore}, declared.set.SetFile.{SetFile}}
 use Rattle.rm_machine.specs.{Backup.{lost_taken, rows_in}, BackupOutcome.{begun}, BackupRefusal.{damage_refusal}}
 use Rattle.rm_machine.specs.Marks.{lacks_bytes, lacks_ids, set_bytes}
 use Rattle.rm_machine.specs.Roll.{after_roll, increment, of_all, roll_member, roll_refusal, roll_room, rolled_files, with_next_id}
-use Rattle.rm_machine.specs.{Sound.{IsPlaced, IsSound}, State.{current_of, ledger, now_of, placed, tree, world}}
-use Rattle.rm_machine.{specs.declared.state.State.{State}, proofs.{BackingUp.{sound-begun}, BackupAccepted.{unless-some}}}
-use Rattle.rm_machine.proofs.{Backups.{IsTaken, taken-all}, Groups.{mapped-pairs, mapped-sum}, Later.{sound-with}, MembersRead.{member-is}}
-use Rattle.rm_machine.proofs.{PiecesRead.{AreAll, AreRead, BeginsBelow, IsCheckpoint, IsFound}, Places.{counted-open}}
+use Rattle.rm_machine.specs.{Sound.{IsPlaced, IsSound}, State.{current_of, ledger, now_of, tree, world}, declared.state.State.{State}}
+use Rattle.rm_machine.proofs.{BackingUp.{sound-begun}, BackupAccepted.{unless-some}, Backups.{IsTaken, taken-all}}
+use Rattle.rm_machine.proofs.{Groups.{mapped-pairs, mapped-sum}, Later.{sound-with}, MembersRead.{member-is}}
+use Rattle.rm_machine.proofs.{PiecesRead.{AreRead, BeginsBelow, IsCheckpoint, IsFound}, Places.{counted-open}}
 use Rattle.rm_machine.proofs.TakenFiles.{taken-blocks, taken-few, taken-rise}
 
 -- it was not refused

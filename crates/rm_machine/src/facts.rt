@@ -1,9 +1,8 @@
 //! What a state shows.
 ghost use Rattle.std.specs.{Prelude.{◌≡◌, ◌<◌, ◌≤◌, ◌↔◌, IfSome, IsTrue, not, unwrap_or}, Option.{option_copied}};
-ghost use Rattle.rm_base.specs.Numbers.{last_scn};
 ghost use Rattle.rm_history.specs.{Tree.{IsThere, end_of}, World.{blocks_of, creation_of, exists, file_of}};
 ghost use Rattle.rm_machine.specs.{Dump.{placed_row}, Mount.{first_lost}, Sound.{IsSound}};
-ghost use Rattle.rm_machine.specs.State.{current_of, datafile_at, has_lost, is_no_thread, ledger, now_of, on_path, placed, redo_end, tree, world};
+ghost use Rattle.rm_machine.specs.State.{datafile_at, has_lost, is_no_thread, ledger, now_of, on_path, placed, redo_end, tree, world};
 ghost use Rattle.rm_redo.specs.Online.{IsLost, IsThread};
 
 use crate::state::State;

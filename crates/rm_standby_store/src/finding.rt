@@ -1,6 +1,6 @@
 //! The standby that a store has.
 ghost use Rattle.std.specs.Prelude.{ℕ, ◌≡◌, ◌++◌, ◌∷◌, [], ◌↔◌, ◌≤◌, ◌<◌, List, IfOk, IfSome, IsErrOf, IsTrue, Some};
-ghost use Rattle.rm_base.specs.{Outside.{Rose}, Store.{Held}, declared.store.StoreFail.TheVariants.{Failed}};
+ghost use Rattle.rm_base.specs.{Outside.{Rose}, declared.store.StoreFail.TheVariants.{Failed}};
 ghost use Rattle.rm_piece.specs.Sets.{IsSet};
 ghost use Rattle.rm_standby_store.specs.Names.{IsAmong, IsBelow, IsStandby, SpellsSet};
 

@@ -3,7 +3,6 @@ use Rattle.std.proofs.Common.{◌≡◌, ◌<◌, ◌≤◌, ◌+◌, ◌∙◌,
 use Rattle.std.proofs.lemmas.{List.{map-id, Elements.{All-weaker}, Sums.{sum_by-le}}, Simd.{map-map}}
 use Rattle.rm_base.specs.Store.{Held}
 use Rattle.rm_catalog_typed.specs.Fitting.{FitsBase}
-use Rattle.rm_commit.specs.declared.commit.Object.{Object}
 use Rattle.rm_lang_statement.specs.declared.command.{BackupForm.{BackupForm}, Command.TheVariants.{BackupFrom}}
 use Rattle.rm_machine.specs.{Backup.{taken}, BackupOutcome.{begun}, BackupRefusal.{mark_count}, Effect.{done}, Hands.{Hands}}
 use Rattle.rm_machine.specs.Marks.{lacks_room}
@@ -12,7 +11,6 @@ use Rattle.rm_machine.specs.{Sound.{IsSound}, Upkeep.{with_catalog}, State.{ledg
 use Rattle.rm_machine.{specs.declared.state.State.{State}, proofs.{BackingUp.{mapped-all}, Rolling.{can-roll, increment-valid, next-fits}}}
 use Rattle.rm_piece.specs.{Sets.{IsMember, IsSet}, Valid.{IsPiece}, declared.set.{Set.{Set}, SetFile.{SetFile}}}
 use Rattle.rm_piece.proofs.Fitting.{few_rows}
-use Rattle.rm_report.specs.declared.line.Line.{Line}
 use Rattle.rm_step_backup.specs.Increments.{CanStand, jobs_of}
 
 -- a valid set lists 65,536 rows of each member at most

@@ -1,17 +1,14 @@
 -- Objects that are made are recorded, one after another.
-use Rattle.std.proofs.Common.{◌≡◌, ◌∙◌, ◌++◌, ℕ, List, [], ◌∷◌, ap, refl, sym, subst, map}
-use Rattle.std.proofs.lemmas.Simd.{map-map}
+use Rattle.std.proofs.{Common.{◌≡◌, ◌∙◌, ◌++◌, ℕ, List, [], ◌∷◌, ap, refl, sym, subst, map}, lemmas.Simd.{map-map}}
 use Rattle.rm_catalog.specs.declared.record.Edit.{Edit}
 use Rattle.rm_catalog_typed.specs.{Changes.{EditsFollow}, Fitting.{FitsNewSet}}
 use Rattle.rm_lang_statement.specs.declared.command.BackupForm.{BackupForm}
 use Rattle.rm_machine.specs.MadeObjects.{CanRecord, Packed, alone, in_set}
-use Rattle.rm_machine.specs.MadeSets.{InSet, after_set, member_line, set_entry_for, set_object, set_of, told_member}
-use Rattle.rm_machine.specs.{MadePieces.{line_under}, Sound.{IsSound}, State.{ledger}}
-use Rattle.rm_machine.{specs.declared.{handed.Handed.{Handed}, state.State.{State}}, proofs.Recording.{Stays, next-fits}}
-use Rattle.rm_piece.specs.declared.set.Set.{Set}
+use Rattle.rm_machine.specs.{MadeSets.{InSet, after_set, set_entry_for, set_object, set_of, told_member}, MadePieces.{line_under}}
+use Rattle.rm_machine.specs.{Sound.{IsSound}, State.{ledger}, declared.{handed.Handed.{Handed}, state.State.{State}}}
+use Rattle.rm_machine.proofs.Recording.{Stays, next-fits}
 use Rattle.rm_report.specs.declared.line.Line.{Line}
-use Rattle.rm_step_backup.specs.{Making.{FitsNext, after_entry, made_of, object_under}, Recorded.{HasRecorded}}
-use Rattle.rm_step_backup.specs.declared.making.Made.{Made}
+use Rattle.rm_step_backup.specs.{Making.{FitsNext, after_entry, made_of, object_under}, Recorded.{HasRecorded}, declared.making.Made.{Made}}
 use Rattle.rm_step_backup.proofs.UnderWay.{IsUnderWay, way-end, way-on, way-start}
 
 module _ (s : State) (b : BackupForm) (tag : List ℕ) (xs : List Packed) (before : List Edit) (first : Handed) where

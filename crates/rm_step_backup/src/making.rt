@@ -1,6 +1,5 @@
 //! The objects of a backup are made of what was read of its datafiles, side by side.
 ghost use Rattle.std.specs.{Prelude.{◌≡◌, All, IfOk, map}, Thread.{IsSync}};
-ghost use Rattle.rm_machine.specs.State.{ledger};
 ghost use Rattle.rm_step_backup.specs.Making.{CanMake, made_by};
 
 use crate::pieces::make_piece;

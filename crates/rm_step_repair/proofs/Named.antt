@@ -1,6 +1,6 @@
 -- The blocks that a BLOCKRECOVER names, where they are there: their numbers are small.
 use Rattle.std.specs.Option.{option_and_then, option_map, option_map_or}
-use Rattle.std.proofs.Common.{◌≡◌, ◌<◌, ◌≤◌, ◌∙◌, inl, inr, ℕ, List, Option, Some, None, Bool, nat_le, refl, ap, sym, subst, arith, find, Contains}
+use Rattle.std.proofs.Common.{◌≡◌, ◌<◌, ◌≤◌, ◌∙◌, inl, inr, ℕ, Option, Some, None, nat_le, refl, ap, sym, arith, find, Contains}
 use Rattle.std.proofs.lemmas.Bool.{cases_lt, le-leb}
 use Rattle.rm_base.{specs.declared.refusal.Absent.{Absent}, proofs.Lists.{find_none}}
 use Rattle.rm_base.specs.declared.refusal.Absent.TheVariants as absent

@@ -87,7 +87,6 @@ impl<'a> DirStore<Dir<'a>> {
 }
 
 impl<F: Folder> DirStore<F> {
-    ghost use Rattle.rm_base.specs.declared.store.StoreFail.TheVariants.{NoMemory as WithoutMemory};
     ghost use Rattle.rm_store_dir.specs.DirStore.{folder_of, faults_of};
 
     /// The store of this folder, which has not failed.

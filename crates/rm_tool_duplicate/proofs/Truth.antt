@@ -6,11 +6,10 @@ use Rattle.rm_blocks.specs.File.{File}
 use Rattle.rm_catalog.specs.declared.record.Record.{Record}
 use Rattle.rm_catalog_typed.specs.TypedCatalog.{records_of}
 use Rattle.rm_dup.specs.{Copies.{copy_as}, Duplicate.{IsDuplicate}, declared.database.Duplicate.{Duplicate}}
-use Rattle.rm_evidence.specs.{Gathered.{IsGathered}, Known.{known_of}, Seen.{IsSeen}, declared.evidence.Evidence.{Evidence}}
-use Rattle.rm_evidence.specs.declared.evidence.InPlace.{InPlace}
-use Rattle.rm_history.specs.{Evidence.{Agrees}, History.{IsHistory}, State.{states}, World.{blocks_of}, declared.world.World.{World}}
+use Rattle.rm_evidence.specs.{Known.{known_of}, declared.evidence.InPlace.{InPlace}}
+use Rattle.rm_history.specs.{State.{states}, World.{blocks_of}, declared.world.World.{World}}
 use Rattle.rm_lang_words.specs.Duplicate.{DuplicateSaid}
-use Rattle.rm_machine.specs.{Machine.{DigestsTell, IsSoundBy, Machine, TellBy}, Recovery.{AreMadeAt, file_at, in_place}, State.{world}}
+use Rattle.rm_machine.specs.{Machine.{DigestsTell, IsSoundBy, Machine}, Recovery.{AreMadeAt, file_at, in_place}, State.{world}}
 use Rattle.rm_machine.{specs.declared.state.State.{State}, proofs.Told.{tells-files}}
 use Rattle.rm_machine_laws.{specs.Holds.{View}, proofs.{Agreeing.{agreed}, Told.{files-made}}}
 use Rattle.rm_plan.specs.Plan.{IsFileTarget}

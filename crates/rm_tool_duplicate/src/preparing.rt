@@ -4,7 +4,7 @@ ghost use Rattle.rm_lang_words.specs.Reading.{duplicate_of as said_of};
 ghost use Rattle.rm_shelf.specs.Shelved.{AllStay, under};
 ghost use Rattle.rm_tool_opening.specs.Opening.{IsSource};
 ghost use Rattle.rm_tool_duplicate.specs.{Asked.{sides}, Ended.{IsReady, Leaves}};
-ghost use Rattle.rm_tool_ends.specs.Ended.{Counts, NoneFalls, RoseFor};
+ghost use Rattle.rm_tool_ends.specs.Ended.{NoneFalls, RoseFor};
 
 use crate::carrying::commit_for;
 use crate::making::duplicate_of;

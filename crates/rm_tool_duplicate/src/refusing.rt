@@ -1,6 +1,5 @@
 //! Why a duplicate is refused before the source's backups are read.
-ghost use Rattle.std.specs.{Prelude.{◌≡◌, ◌≤◌, ◌<◌, IfOk, IsErrOf}, List.{list_any}, Str.{bytes_eq}};
-ghost use Rattle.rm_apply.specs.Recover.{outside};
+ghost use Rattle.std.specs.Prelude.{◌≡◌, ◌≤◌, ◌<◌, IfOk, IsErrOf};
 ghost use Rattle.rm_base.specs.Outside.{Rose};
 ghost use Rattle.rm_catalog.specs.{Rules.{HasDatabase}, Trees.{nodes}, declared.keeper.KeeperFail.TheVariants.{Failed}};
 ghost use Rattle.rm_evidence.specs.Database.{world_of};

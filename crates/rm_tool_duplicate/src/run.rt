@@ -6,7 +6,7 @@ ghost use Rattle.rm_lang_words.specs.{Duplicate.{DuplicateSaid, duplicate_said},
 ghost use Rattle.rm_shelf.specs.Shelved.{AllStay, OthersStay, under};
 ghost use Rattle.rm_tool_opening.specs.{Opens.{AreValid}, Opening.{WritesBadRecord}};
 ghost use Rattle.rm_tool_duplicate.specs.{Asked.{accepts, sides}, Ended.{EndsInText, EndsRefused, EndsStopped, Finishes, Leaves}};
-ghost use Rattle.rm_tool_ends.specs.{Ended.{Counts, IsEarly, NoneFalls, RoseFor}, Writing.{WritesFront, bad_words}};
+ghost use Rattle.rm_tool_ends.specs.{Ended.{IsEarly, RoseFor}, Writing.{WritesFront, bad_words}};
 
 use crate::carrying::carry;
 use crate::preparing::prepare;

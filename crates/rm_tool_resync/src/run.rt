@@ -1,9 +1,9 @@
 //! A resync, from the words to the status.
-ghost use Rattle.std.specs.Prelude.{◌≡◌, ◌≤◌, ◌∷◌, [], Contains, IfErr, IfOk, OnErr, OnOk, true, false};
+ghost use Rattle.std.specs.Prelude.{◌≡◌, ◌≤◌, ◌∷◌, [], Contains, IfErr, IfOk, OnOk, true, false};
 ghost use Rattle.rm_base.specs.Outside.{Appends, Rose};
-ghost use Rattle.rm_control.specs.{Control.{OneRose}, Follows.{AreEqual}};
+ghost use Rattle.rm_control.specs.Control.{OneRose};
 ghost use Rattle.rm_tool_ends.specs.Writing.{WritesFront, bad_words};
-ghost use Rattle.rm_tool_resync.specs.Resynced.{EndsInLine, Finishes, HasSoMany, Leaves, RoseInResync, StaysOrFollows, accepts, line_of as the_line_of};
+ghost use Rattle.rm_tool_resync.specs.Resynced.{EndsInLine, Finishes, Leaves, RoseInResync, StaysOrFollows, accepts, line_of as the_line_of};
 
 use rm_base::{NoMemory, Seq, Sink, Text};
 use rm_catalog::{Keeper, KeeperFail};

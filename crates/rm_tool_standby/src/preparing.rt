@@ -8,7 +8,7 @@ ghost use Rattle.rm_machine.specs.Sound.{IsSound};
 ghost use Rattle.rm_piece.specs.Sets.{IsSet};
 ghost use Rattle.rm_report.specs.Reply.{HasDate, LineHasDate};
 ghost use Rattle.rm_tool_opening.specs.Opening.{IsSource};
-ghost use Rattle.rm_tool_ends.specs.Ended.{Counts, NoneFalls, RoseFor};
+ghost use Rattle.rm_tool_ends.specs.Ended.{NoneFalls, RoseFor};
 ghost use Rattle.rm_tool_standby.specs.{Asked.{sides}, Ended.{Leaves}, Prepared.{IsFit, IsReady, IsWork, OfShown, ready_of as the_ready}};
 ghost use Rattle.rm_tool_standby.specs.Refused.{RefusesBy, RefusesTask};
 

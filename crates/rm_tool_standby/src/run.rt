@@ -2,9 +2,9 @@
 ghost use Rattle.std.specs.Prelude.{◌≡◌, ◌⊎◌, ◌∷◌, [], Contains, IfErr, List, OnOk, Some, false, true};
 ghost use Rattle.rm_base.specs.Outside.{Appends, Rose};
 ghost use Rattle.rm_catalog.specs.declared.record.Record.{Record};
-ghost use Rattle.rm_lang_words.specs.{Reading.{standby_of}, Standby.{StandbySaid, standby_said}};
+ghost use Rattle.rm_lang_words.specs.Standby.{StandbySaid, standby_said};
 ghost use Rattle.rm_tool_opening.specs.{Opens.{AreValid}, Opening.{WritesBadRecord}};
-ghost use Rattle.rm_tool_ends.specs.{Ended.{Counts, IsEarly, RoseFor}, Writing.{WritesFront, bad_words}};
+ghost use Rattle.rm_tool_ends.specs.{Ended.{IsEarly, RoseFor}, Writing.{WritesFront, bad_words}};
 ghost use Rattle.rm_tool_standby.specs.{Asked.{accepts, sides}, Ended.{EndsInText, EndsRefused, EndsStopped, Finishes, Leaves}};
 
 use crate::keeping::carry;

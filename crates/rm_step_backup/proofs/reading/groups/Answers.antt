@@ -1,5 +1,5 @@
-use Rattle.std.proofs.{Common.{◌≡◌, ◌≤◌, ◌∙◌, ◌∷◌, ◌++◌, [], List, ap, arith, length, min, rules}, lemmas.Bool.Decides.{nat_tests}}
-use Rattle.rm_step_backup.{specs.declared.reading.{FileRead.{FileRead}, Read.{Read, TheVariants.{OfSeveral}}}, proofs.FilesRead.{groups-on}}
+use Rattle.std.proofs.{Common.{◌≡◌, ◌≤◌, ◌∙◌, ◌∷◌, ◌++◌, [], List, ap, arith, length, min}, lemmas.Bool.Decides.{nat_tests}}
+use Rattle.rm_step_backup.{specs.declared.reading.{FileRead.{FileRead}, Read.TheVariants.{OfSeveral}}, proofs.FilesRead.{groups-on}}
 use Rattle.rm_step_backup.proofs.reading.groups.Goals as goal
 
 pub loop-left-preserved : goal.loop-left-preserved

@@ -1,6 +1,6 @@
 use Rattle.std.{specs.Vec.Iter.{into_iter_items}, proofs.{Common.{◌∙◌, arith, rules}, lemmas.List.{nil_from_length}}}
 use Rattle.rm_channel.specs.Jobs.{lists}
-use Rattle.rm_machine.specs.{MadeObjects.{Packed, packed}, State.{ledger}}
+use Rattle.rm_machine.specs.{MadeObjects.{packed}, State.{ledger}}
 use Rattle.rm_step_backup.proofs.{FilesRead.{all-made, reads-can}, NextMade.{left-end, left-fits, left-on, left-start}}
 use Rattle.rm_step_backup.proofs.recording.record_all.Goals as goal
 

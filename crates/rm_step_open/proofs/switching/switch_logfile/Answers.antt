@@ -1,5 +1,4 @@
 use Rattle.std.proofs.Common.{◌≡◌, ◌∙◌, ◌++◌, true, false, List, ap, rules}
-use Rattle.rm_base.proofs.Conditions.{only-where, unless}
 use Rattle.rm_commit.specs.declared.commit.Object.{Object}
 use Rattle.rm_machine.{specs.{Archive.{puts_by, thread_lines}, State.{is_no_thread}}, proofs.Threads.{thread-of}}
 use Rattle.rm_report.specs.declared.line.Line.{Line}
