@@ -1,13 +1,18 @@
 -- A statement that is refused or only tells leaves all as it was.
-use Rattle.std.proofs.{Common.{◌≡◌, ◌∙◌, ◌&&◌, ◌||◌, not, Bool, true, false, List, Option, ap, sym, subst}, Math.Bool.{or-false}}
+use Rattle.std.specs.Prelude.{OnErr}
+use Rattle.std.proofs.{Common.{◌≡◌, ◌∙◌, ◌&&◌, ◌||◌, not, Bool, true, false, List, Option, Result, ap, refl, sym, subst}, Math.Bool.{or-false}}
 use Rattle.rm_base.specs.Store.{Held}
 use Rattle.rm_catalog.specs.declared.record.Record.{Record}
 use Rattle.rm_lang_statement.specs.declared.command.Command.{Command}
 use Rattle.rm_machine.specs.{Comes.{DoesMore}, Laws.{only_tells}}
 use Rattle.rm_machine.specs.declared.{answer.Answer.{Answer, TheVariants.{Done}}, handed.Handed.{Handed}, state.State.{State}}
-use Rattle.rm_machine_laws.specs.{Holds.{View}, Saves.{applies}}
+use Rattle.rm_machine_laws.{specs.{Holds.{View}, Saves.{applies}}, proofs.Answering.{on-err}}
 use Rattle.rm_report.specs.{Reply.{said}, declared.line.{Line.{Line}, Reply.{Reply}}}
-use Rattle.rm_site.specs.Untouched.{IsUntouched, is_quiet}
+use Rattle.rm_site.specs.Untouched.{AreSame, IsUntouched, is_quiet}
+
+-- nothing was done, whatever the statement
+pub still_same : {T E : Type 0} (r : Result T E) (P : Type 0) (held held' : Option Held) (kept : Option (List Record)) → held' ≡ held → OnErr r (P → AreSame held kept held' kept)
+still_same r P held held' kept same = on-err (P → AreSame held kept held' kept) r (λ p. (same, refl))
 
 -- a reply that is no refusal, to a statement that does more than tell, is not quiet
 pub not-quiet : (c : Command) (reply : Reply) (lines : List Line) → only_tells c ≡ false → reply ≡ said lines → is_quiet c reply ≡ true → ⊥

@@ -40,7 +40,7 @@ fn add_names(alloc: Global, names: &mut Seq<Text>, parts: &[PartEntry]) -> Resul
 }
 
 // The names of objects that go: these, and those of a saved site.
-#[tactic(auto, using(crate::proofs::Answering::no_more_names))]
+#[tactic(auto, using(rm_machine_laws::proofs::Answering::no_more_names))]
 fn and_saved(alloc: Global, names: Seq<Text>, saved: &Option<Saved>) -> Result<Seq<Text>, NoMemory>
     ensures { IfOk result (λ all. all ≡ names ++ saved_names saved.now) }
 {
@@ -60,7 +60,7 @@ fn has_applied(before: bool, command: &Command, reply: &Reply) -> bool
 }
 
 // The answer to a statement where there is no database: CREATE DATABASE makes one.
-#[tactic(auto, using(crate::proofs::Answering::untouched, crate::proofs::Answering::still_same))]
+#[tactic(auto, using(rm_machine_laws::proofs::Answering::untouched, crate::proofs::Quiet::still_same))]
 fn answer_without<D: Store, C: Keeper>(
     alloc: Global,
     store: &mut D,
@@ -97,7 +97,7 @@ fn answer_without<D: Store, C: Keeper>(
 }
 
 // The answer to a statement where there is a database. After a stop nothing is said of the state.
-#[tactic(auto, using(crate::proofs::Answering::untouched, crate::proofs::Answering::still_same))]
+#[tactic(auto, using(rm_machine_laws::proofs::Answering::untouched, crate::proofs::Quiet::still_same))]
 fn answer_in<R: Threads + Wait + Sync, G: Gate, D: Store, C: Keeper>(
     rt: &R,
     alloc: Global,
