@@ -1,6 +1,6 @@
 -- What a set holds of the states at its address it holds after a step.
-use Rattle.std.specs.{Prelude.{MatchBool}, Option.{option_map_or}}
-use Rattle.std.proofs.Common.{◌≡◌, ◌<◌, ◌≤◌, ◌-◌, ◌∙◌, ◌&&◌, ◌==◌, inl, inr, nat_le, nat_lt, ℕ, List, [], Option, Some, None, is_none, Bool, true, false, refl, ap, sym, subst, arith, length, AllPairs, Contains}
+use Rattle.std.specs.Option.{option_map_or}
+use Rattle.std.proofs.Common.{◌≡◌, ◌<◌, ◌≤◌, ◌-◌, ◌∙◌, ◌&&◌, ◌==◌, inl, inr, nat_le, nat_lt, ℕ, List, [], Option, Some, None, Bool, true, refl, ap, sym, subst, arith, length, AllPairs, Contains}
 use Rattle.std.proofs.lemmas.{Bool.{and_parts, eqb-true, leb-true, ltb-true}, Option.{slice_get_within}, List.Elements.{All-contains}}
 use Rattle.rm_base.{specs.declared.{block.{Change.{Change}, Row.{Row}}, kinds.Kind.TheVariants.{Level1}}, proofs.Lists.{filter_from}}
 use Rattle.rm_base.proofs.Standing.{each-in}
@@ -15,11 +15,10 @@ use Rattle.rm_piece.proofs.PickedStates.{begin, picked-all, picked-begin, still-
 use Rattle.rm_standby.specs.Standby.{IsTaken}
 use Rattle.rm_lang_statement.specs.declared.command.Command.{Command}
 use Rattle.rm_machine.specs.{Damage.{without_damaged}, Effect.{Artefact, a_piece}, Honest.{IsHonest}, Laws.{IsMomentOf}}
-use Rattle.rm_machine.specs.{Machine.{IsSoundMachine, IsTrueArtefact, Machine, PieceEndsWithin}, Marks.{lacks_ids}}
-use Rattle.rm_machine.specs.{Rest.{Rest, Wakes, at_rest, catalog_in}, Saving.{IsSavedAs, IsSavedBy}, Step.{IsStatement, names_in}}
-use Rattle.rm_machine.specs.{State.{tree, world}, declared.state.State.{State}}
-use Rattle.rm_machine_laws.specs.{Holds.{saved_in}, Moments.{IsMomentIn}, Saves.{IsEnded}, Stopped.{IsLeft, Stopped}}
-use Rattle.rm_standby_laws.{specs.Lasting.{HoldsIn, HoldsOf, IsHeld, RestsHeld, StaysHeld}, proofs.Growing.{Grows}}
+use Rattle.rm_machine.specs.{Machine.{IsSoundMachine, IsTrueArtefact, Machine, PieceEndsWithin}, Rest.{Rest, Wakes, at_rest, catalog_in}}
+use Rattle.rm_machine.specs.{Saving.{IsSavedAs}, Step.{IsStatement, names_in}, State.{tree, world}, declared.state.State.{State}}
+use Rattle.rm_machine_laws.specs.{Moments.{IsMomentIn}, Saves.{IsEnded}, Stopped.{IsLeft, Stopped}}
+use Rattle.rm_standby_laws.{specs.Lasting.{HoldsIn, HoldsOf, IsHeld, RestsHeld, StaysHeld}, proofs.{Ended.{ended-either}, Growing.{Grows}}}
 use Rattle.rm_standby_laws.proofs.Steps.{IsAfter, borne, grown, state-after, still-true}
 
 module _ (s t : State) (h k : List Change) (from : ℕ) (a : Set) (are : AreIncarnations (tree s)) (grows : Grows s t) (history : IsHistory (world s) h)
@@ -218,11 +217,6 @@ stays-since from m n c moment reply a well sound honest at step held = by m.stat
 pub stays-whole : StaysHeld (λ rows. rows)
 stays-whole = subst StaysHeld (λ j rows. picked-all rows j) (stays-since 0)
 
--- what follows from the one and from the other
-pub either : (b : Bool) (P Q R : Type 0) → MatchBool b P Q → (P → R) → (Q → R) → R
-either true P Q R is first second = first is
-either false P Q R is first second = second is
-
 module _ (pick : List Row → List Row) (a : Set) where
   -- a machine with these records and this history is at rest
   rests-as : (m : Machine) (r : Rest) → r.catalog ≡ catalog_in m.state → r.history ≡ m.history → IsHeld m pick a → RestsHeld r pick a
@@ -248,16 +242,11 @@ module _ (pick : List Row → List Row) (a : Set) where
   saved-held m s r saved holds =
       subst (λ (h : List Change). HoldsOf r.catalog h pick a) (sym saved.history) (subst (λ o. HoldsOf o m.history pick a) (sym saved.catalog) holds)
 
-  saved-by : (o : Option State) (m : Machine) (r : Rest) → m.state ≡ o → IsSavedBy o m r → IsHeld m pick a → RestsHeld r pick a
-  saved-by None m r is saved held = rested-held m r saved held
-  saved-by (Some s) m r is saved held =
-      either (lacks_ids s 0) (r ≡ at_rest m) (IsSavedAs m (without_damaged s) r) (RestsHeld r pick a) saved (λ rest. rested-held m r rest held)
-      (λ site. saved-held m s r site (subst (λ o. HoldsOf (catalog_in o) m.history pick a) is held))
-
   pub ended-held : (m : Machine) (r : Rest) (applied : Bool) → IsEnded applied m r → IsHeld m pick a → RestsHeld r pick a
-  ended-held m r applied ended held =
-      either (applied && is_none (saved_in m.state)) (IsSavedBy m.state m r) (r ≡ at_rest m) (RestsHeld r pick a) ended
-      (λ saved. saved-by m.state m r refl saved held) (λ rest. rested-held m r rest held)
+  ended-held m r applied ended held = elim (ended-either m r applied ended) [
+    | inl rest ↦ rested-held m r rest held
+    | inr site ↦ saved-held m site.state r site.saved (subst (λ o. HoldsOf (catalog_in o) m.history pick a) site.is held)
+  ]
 
   pub wakes-held : (m : Machine) (r : Rest) → Wakes r m → RestsHeld r pick a → IsHeld m pick a
   wakes-held m r wakes held = subst (λ (x : Rest). RestsHeld x pick a) (sym wakes.rest) held

@@ -1,6 +1,6 @@
 -- An increment stands under its name from its BACKUP on, unless HOST gives that.
 use Rattle.std.specs.Str.{bytes_eq}
-use Rattle.std.proofs.Common.{◌≡◌, ◌<◌, ◌∙◌, ◌&&◌, inl, inr, ℕ, List, Option, Some, None, is_none, Bool, true, false, cond, refl, ap, sym, subst, arith, Contains}
+use Rattle.std.proofs.Common.{◌≡◌, ◌<◌, ◌∙◌, inl, inr, ℕ, List, Option, Some, None, Bool, true, false, cond, refl, ap, sym, subst, arith, Contains}
 use Rattle.std.proofs.lemmas.{Bool.{cases_Bool, false≢true}, Slice.Eq.{bytes_eq-Decides}}
 use Rattle.rm_base.specs.Store.{Held}
 use Rattle.rm_commit.{specs.Names.{is_named, itself, name_of, bytes_of, nothing}, proofs.Named.{unnamed-stays}}
@@ -10,16 +10,15 @@ use Rattle.rm_piece.specs.{SetSpelling.{set_spelling}, declared.set.Set.{Set}}
 use Rattle.rm_lang_statement.specs.declared.command.Command.{Command, TheVariants.{BackupFrom}}
 use Rattle.rm_report.specs.declared.line.Reply.{Reply}
 use Rattle.rm_machine.specs.{Damage.{without_damaged}, Effect.{Effect, LeavesObjects, Outcome, done, refused, told}, Laws.{IsMomentOf}}
-use Rattle.rm_machine.specs.{Machine.{IsBorneOut, IsSoundBy, IsSoundMachine, Machine}, Marks.{lacks_ids}}
-use Rattle.rm_machine.specs.{Rest.{Rest, Wakes, at_rest, catalog_in}, Roll.{after_roll, increment, roll_effect, roll_refusal}}
-use Rattle.rm_machine.specs.{Saving.{IsSavedAs, IsSavedBy, object_of, parts_of, with_ids}, State.{at_moment, ledger}}
-use Rattle.rm_machine.specs.{Step.{IsOutcome, Step, StepBy, StepIn, and_drops, names_in}, declared.state.State.{State}}
-use Rattle.rm_machine.proofs.Later.{sound-later}
-use Rattle.rm_machine_laws.specs.{Holds.{saved_in}, Loose.{IsGivenIn}, Moments.{IsMomentIn}, Saves.{IsEnded}, Stopped.{IsLeft, Stopped}}
+use Rattle.rm_machine.specs.{Machine.{IsBorneOut, IsSoundBy, IsSoundMachine, Machine}, Rest.{Rest, Wakes, at_rest, catalog_in}}
+use Rattle.rm_machine.specs.{Roll.{after_roll, increment, roll_effect, roll_refusal}, Saving.{IsSavedAs, object_of, parts_of, with_ids}}
+use Rattle.rm_machine.specs.{State.{at_moment, ledger}, Step.{IsOutcome, Step, StepBy, StepIn, and_drops, names_in}}
+use Rattle.rm_machine.{specs.declared.state.State.{State}, proofs.Later.{sound-later}}
+use Rattle.rm_machine_laws.specs.{Loose.{IsGivenIn}, Moments.{IsMomentIn}, Saves.{IsEnded}, Stopped.{IsLeft, Stopped}}
 use Rattle.rm_machine_laws.proofs.{Dropping.{named-first, unnamed-site}, Every.{every-loose, every-roomy}, Leading.{done-by}}
 use Rattle.rm_machine_laws.proofs.LowNames.{step-rolls}
-use Rattle.rm_standby_laws.{specs.Standing.{IsUnder, RestsIn, StandsIn}, proofs.{Beginning.{told-not}, Lasting.{either, moment-of}}}
-use Rattle.rm_standby_laws.proofs.Steps.{stepped}
+use Rattle.rm_standby_laws.{specs.Standing.{IsUnder, RestsIn, StandsIn}, proofs.{Beginning.{told-not}, Ended.{ended-either}}}
+use Rattle.rm_standby_laws.proofs.{Lasting.{moment-of}, Steps.{stepped}}
 
 module _ (id : ℕ) (a : Set) where
   -- where its object stands as it did, and its id is still given
@@ -80,15 +79,11 @@ module _ (id : ℕ) (a : Set) where
       let low : id < first = subst (λ o. IsGivenIn (catalog_in o) id) to given in
       subst (λ o. IsGivenIn o id) (sym site.catalog) (omega (arith, low))) same is
 
-  saved-by : (o : Option State) (m : Machine) (r : Rest) → m.state ≡ o → IsSavedBy o m r → StandsIn m id a → RestsIn r id a
-  saved-by None m r to by is = rested m r by is
-  saved-by (Some s) m r to by is =
-      either (lacks_ids s 0) (r ≡ at_rest m) (IsSavedAs m (without_damaged s) r) (RestsIn r id a) by (λ rest. rested m r rest is) (λ site. saved m s r to site is)
-
   pub ended-stands : (m : Machine) (r : Rest) (applied : Bool) → IsEnded applied m r → StandsIn m id a → RestsIn r id a
-  ended-stands m r applied ended is =
-      either (applied && is_none (saved_in m.state)) (IsSavedBy m.state m r) (r ≡ at_rest m) (RestsIn r id a) ended
-      (λ by. saved-by m.state m r refl by is) (λ rest. rested m r rest is)
+  ended-stands m r applied ended is = elim (ended-either m r applied ended) [
+    | inl rest ↦ rested m r rest is
+    | inr site ↦ saved m site.state r site.is site.saved is
+  ]
 
   pub wakes-stands : (m : Machine) (r : Rest) → Wakes r m → RestsIn r id a → StandsIn m id a
   wakes-stands m r wakes is = subst (λ (x : Rest). RestsIn x id a) (sym wakes.rest) is
