@@ -38,7 +38,7 @@ pub record IsSolid (w : World) (s : ℕ) (x : File) : Type 0 where
   pub created : creation_of w x.file < s
   pub rows : (b : ℕ) (r : Row) → slice_get x.rows b ≡ Some r → (r.block ≡ b) × (creation_of w x.file ≤ r.version) × (r.version < s)
 
-pub solid : (w : World) (e : Evidence) (i s : ℕ) (x : File) → IsFileTarget w i s x.file → IsTold w e i s x.file x → IsSolid w s x
+solid : (w : World) (e : Evidence) (i s : ℕ) (x : File) → IsFileTarget w i s x.file → IsTold w e i s x.file x → IsSolid w s x
 solid w e i s x target told =
     let created : creation_of w x.file ≡ target.datafile.creation = ap (λ (o : Option Datafile). option_map_or (λ d. d.creation) o 0) target.is in
     let parts = exists_from target.datafile.creation s (owner w.tree i target.datafile.creation) target.datafile.inc target.exists in
@@ -160,7 +160,7 @@ module _ (w : World) (s : ℕ) (files : List File) (copies : Evidence) (are : Ar
   recoverable f b target = let p = spot f b target in record { version = p.row.version; content = p.row.content; is = determined f b p }
 
 -- the state of a block that is as it was created has zero bytes
-untouched : (w : World) (h : List Change) (i s f b : ℕ) (r : Row) → IsHistory w h → state w h i s f b ≡ r → r.version ≡ creation_of w f → r.content ≡ zero_block
+pub untouched : (w : World) (h : List Change) (i s f b : ℕ) (r : Row) → IsHistory w h → state w h i s f b ≡ r → r.version ≡ creation_of w f → r.content ≡ zero_block
 untouched w h i s f b r history is old =
     let held = state-held w h i s f b in
     let same : (state w h i s f b).version ≡ creation_of w f = ap (λ (x : Row). x.version) is ∙ old in
@@ -178,18 +178,22 @@ untouched w h i s f b r history is old =
 row-path : (r q : Row) → r.block ≡ q.block → r.version ≡ q.version → r.content ≡ q.content → r ≡ q
 row-path r q b v c = λ j. record { block = b j; version = v j; content = c j }
 
-module _ (w : World) (e copies : Evidence) (i s : ℕ) (files : List File) (at : AreFilesAt w e i s files) (are : AreCopies s files copies) where
+module _ (w : World) (e : Evidence) (i s : ℕ) (files : List File) (at : AreFilesAt w e i s files) where
   pub file-target : (x : File) → Contains files x → IsFileTarget w i s x.file
   file-target x has = (at.numbers.exact x.file).0 (map_to (λ (y : File). y.file) files x has)
 
-  file-told : (x : File) → Contains files x → IsTold w e i s x.file x
+  pub file-told : (x : File) → Contains files x → IsTold w e i s x.file x
   file-told x has = All-contains (λ (y : File). IsTold w e i s y.file y) files x at.each has
 
-  pub all-solid : (k : ℕ) (x : File) → slice_get files k ≡ Some x → IsSolid w s x
-  all-solid k x is = let has = member files k x is in solid w e i s x (file-target x has) (file-told x has)
+  pub is-solid : (x : File) → Contains files x → IsSolid w s x
+  is-solid x has = solid w e i s x (file-target x has) (file-told x has)
 
+  pub all-solid : (k : ℕ) (x : File) → slice_get files k ≡ Some x → IsSolid w s x
+  all-solid k x is = is-solid x (member files k x is)
+
+module _ (w : World) (e copies : Evidence) (i s : ℕ) (files : List File) (at : AreFilesAt w e i s files) (are : AreCopies s files copies) where
   pub all-back : IsRecoverable (duplicated w s files) copies 1 s
-  all-back = recoverable w s files copies are all-solid
+  all-back = recoverable w s files copies are (all-solid w e i s files at)
 
   module _ (h : List Change) (back : List File) (history : IsHistory w h) (agrees : Agrees w h e) (there : AreFilesAt (duplicated w s files) copies 1 s back) where
     -- each datafile that comes back is what the history made of the one that it was
@@ -197,7 +201,7 @@ module _ (w : World) (e copies : Evidence) (i s : ℕ) (files : List File) (at :
     true-to-source y has =
         let target = (there.numbers.exact y.file).0 (map_to (λ (z : File). z.file) back y has) in
         let told = All-contains (λ (z : File). IsTold (duplicated w s files) copies 1 s z.file z) back y there.each has in
-        let found = item w s files copies are all-solid y.file target.datafile target.is in
+        let found = item w s files copies are (all-solid w e i s files at) y.file target.datafile target.is in
         let x = found.0 in
         let within = member files (y.file - 1) x found.1 in
         let size : blocks_of (duplicated w s files) y.file ≡ target.datafile.blocks = ap (λ (o : Option Datafile). option_map_or (λ d. d.blocks) o 0) target.is in
@@ -205,15 +209,15 @@ module _ (w : World) (e copies : Evidence) (i s : ℕ) (files : List File) (at :
         let long : length y.rows ≡ blocks_of w x.file = told.blocks ∙ size ∙ blocks in
         let rows : y.rows ≡ states w h i s x.file (blocks_of w x.file) = rows-are (state w h i s x.file) 0 (blocks_of w x.file) y.rows long (λ k r is.
         let inside : k < length y.rows = slice_get_within y.rows k r is in
-        let p = spot w s files copies are all-solid y.file k (record { there = target.there; datafile = target.datafile; is = target.is; exists = target.exists; block = omega (arith, inside, long, blocks) }) in
+        let p = spot w s files copies are (all-solid w e i s files at) y.file k (record { there = target.there; datafile = target.datafile; is = target.is; exists = target.exists; block = omega (arith, inside, long, blocks) }) in
         let some = found.3 in
         let same : y.file - 1 ≡ p.place = omega (arith, some, p.number) in
         let one : x ≡ p.file = same_Some x p.file (sym found.1 ∙ ap (λ n. slice_get files n) same ∙ p.there) in
         let read : slice_get x.rows k ≡ Some p.row = ap (λ (z : File). slice_get z.rows k) one ∙ p.read in
-        let was : state w h i s x.file k ≡ p.row = row-is w e i s x.file h x history agrees (file-target x within) (file-told x within) k p.row read in
+        let was : state w h i s x.file k ≡ p.row = row-is w e i s x.file h x history agrees (file-target w e i s files at x within) (file-told w e i s files at x within) k p.row read in
         let row = told.rows k r is in
-        let means = told-is w s files copies are all-solid y.file k p r.version r.content row.1 in
-        let stands : p.row.block ≡ k = ((all-solid p.place p.file p.there).rows k p.row p.read).0 in
+        let means = told-is w s files copies are (all-solid w e i s files at) y.file k p r.version r.content row.1 in
+        let stands : p.row.block ≡ k = ((all-solid w e i s files at p.place p.file p.there).rows k p.row p.read).0 in
         let content : r.content ≡ p.row.content = elim means.1 [
           | inl is ↦ is
           | inr old ↦ old.1 ∙ sym (untouched w h i s x.file k p.row history was (old.0 ∙ ap (λ (z : File). creation_of w z.file) (sym one)))

@@ -1,6 +1,6 @@
 -- Where the copies stand under their names, and nothing but some of them is in place, what is at hand of a duplicate is
 -- the copies, and nothing else.
-use Rattle.std.{specs.List.{enumerate_from}, proofs.Common.{◌≡◌, ◌∙◌, inl, inr, ℕ, List, [], ◌∷◌, map, Contains, All, refl, sym, ap, subst}}
+use Rattle.std.{specs.List.{enumerate_from}, proofs.Common.{◌≡◌, ◌<◌, ◌∙◌, inl, inr, ℕ, List, [], ◌∷◌, map, Contains, All, refl, sym, ap, subst, arith}}
 use Rattle.std.proofs.lemmas.{List.Elements.{All-contains, Contains-append_cases, Contains-append_right}, Option.{same_Some}}
 use Rattle.rm_apply.specs.Restore.{backed_up}
 use Rattle.rm_base.{specs.{Store.{Held}, declared.kinds.Kind.{Kind, TheVariants.{Level0, Level1}}}, proofs.Lists.{map_from, map_to}}
@@ -95,6 +95,21 @@ module _ (w : World) (dbid moment s : ℕ) (files : List File) (typed : IsTypedC
       let same : base_of copy.item ≡ base_of x.1 = ap (λ (y : File). base_of (placed_piece (dbid_in rs) y)) copy.is ∙ ap base_of file.is ∙ ap (λ (y : ℕ × Piece). base_of y.1) under.is in
       subst (λ (y : artefact.Base). Contains (map (base_as s) (enumerate_from 1 files)) y) same (copy-in copy.item copy.held)
 
+  -- each backup at hand is a copy, and each copy is one
+  pub backup-is : (x : ℕ × Piece) → Contains e.bases x → 0 < x.0 → Contains copies x.1
+  backup-is x has some = elim (Contains-append_cases in_front is.bases.rest x (subst (λ (xs : List (ℕ × Piece)). Contains xs x) is.bases.list has)) [
+    | inl here ↦
+        let under = map_from (λ (a : Piece). (0, a)) (map (placed_piece (dbid_in rs)) stand) x here in
+        let none = ap (λ (y : ℕ × Piece). y.0) under.is in
+        absurd (omega (arith, none, some))
+    | inr rest ↦ piece-from x.0 x.1 ((is.bases.exact x.0 x.1).0 rest).0
+  ]
+
+  pub backup-there : (a : Piece) → Contains copies a → Contains e.bases (a.file, a)
+  backup-there a has =
+      subst (λ (xs : List (ℕ × Piece)). Contains xs (a.file, a)) (sym is.bases.list)
+      (Contains-append_right in_front is.bases.rest (a.file, a) ((is.bases.exact a.file a).1 (base-to a has)))
+
   base-in : (b : artefact.Base) → Contains (known_of e).bases b → Contains (map (base_as s) (enumerate_from 1 files)) b
   base-in b has =
       let found = map_from (λ (x : ℕ × Piece). base_of x.1) e.bases b has in
@@ -109,8 +124,7 @@ module _ (w : World) (dbid moment s : ℕ) (files : List File) (typed : IsTypedC
   base-has b has =
       let of = map_from (base_as s) (enumerate_from 1 files) b has in
       let a = copy_as dbid s of.item in
-      let rest = (is.bases.exact a.file a).1 (base-to a (map_to (copy_as dbid s) (enumerate_from 1 files) of.item of.held)) in
-      let all = subst (λ (xs : List (ℕ × Piece)). Contains xs (a.file, a)) (sym is.bases.list) (Contains-append_right in_front is.bases.rest (a.file, a) rest) in
+      let all = backup-there a (map_to (copy_as dbid s) (enumerate_from 1 files) of.item of.held) in
       subst (λ (y : artefact.Base). Contains (known_of e).bases y) of.is (map_to (λ (y : ℕ × Piece). base_of y.1) e.bases (a.file, a) all)
 
   not-one : (id : ℕ) (b : Piece) → ¬ IsLevel1Of held rs id b

@@ -1,8 +1,10 @@
 pub mod Back
 pub mod Blocks
+pub mod Changes
 mod Gathered
 mod Made
 mod Recovery
+pub mod Restored
 pub mod Source
-mod Valid
-mod Whole
+pub mod Valid
+pub mod Whole

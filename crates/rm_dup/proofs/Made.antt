@@ -6,7 +6,7 @@ use Rattle.rm_base.{specs.declared.block.Change.{Change}, proofs.Lists.{map_from
 use Rattle.rm_base.proofs.{Numbered.{numbered-at, numbered-of, numbers-ascend}, OneOrder.{one-order}}
 use Rattle.rm_blocks.specs.File.{File}
 use Rattle.rm_evidence.proofs.Parts.{file-at}
-use Rattle.rm_history.specs.{Evidence.{Agrees, Evidence}, History.{IsHistory}, Tree.{owner}, World.{creation_of}}
+use Rattle.rm_history.specs.{Evidence.{Agrees, Evidence}, History.{IsHistory}, Tree.{owner}, World.{creation_of, file_of}}
 use Rattle.rm_history.{specs.declared.world.World.{World}, proofs.Owners.{owner-first}}
 use Rattle.rm_plan.specs.Plan.{IsFileTarget}
 use Rattle.rm_apply.specs.Told.{AreFilesAt}
@@ -16,15 +16,19 @@ use Rattle.rm_dup.proofs.Back.{AreCopies, all-solid, mapped, true-to-source}
 exists-at : (creation s owned inc : ℕ) → creation < s → owned ≡ inc → (nat_lt creation s && (owned == inc)) ≡ true
 exists-at creation s owned inc below is = grind (arith, nat_tests)
 
--- item k of the datafiles exists as datafile 1 + k of the duplicate
-exists-there : (w : World) (s : ℕ) (files : List File) (k : ℕ) (x : File) → slice_get files k ≡ Some x → creation_of w x.file < s → IsFileTarget (duplicated w s files) 1 s (1 + k)
+-- item k of the datafiles is datafile 1 + k of the duplicate
+pub datafile-there : (w : World) (s : ℕ) (files : List File) (k : ℕ) (x : File) → slice_get files k ≡ Some x → file_of (duplicated w s files) (1 + k) ≡ Some (as_first w x.file)
+datafile-there w s files k x is =
+    let back : 1 + k - 1 ≡ k = omega arith in
+    file-at (duplicated w s files) (1 + k) (omega arith) ∙ ap (λ n. slice_get (duplicated w s files).files n) back
+    ∙ slice_get-map (λ (y : File). as_first w y.file) files k ∙ ap (λ o. option_map (λ (y : File). as_first w y.file) o) is
+
+-- and exists there
+pub exists-there : (w : World) (s : ℕ) (files : List File) (k : ℕ) (x : File) → slice_get files k ≡ Some x → creation_of w x.file < s → IsFileTarget (duplicated w s files) 1 s (1 + k)
 exists-there w s files k x is below = record {
   there = (omega arith, omega arith);
   datafile = as_first w x.file;
-  is =
-      let back : 1 + k - 1 ≡ k = omega arith in
-      file-at (duplicated w s files) (1 + k) (omega arith) ∙ ap (λ n. slice_get (duplicated w s files).files n) back
-      ∙ slice_get-map (λ (y : File). as_first w y.file) files k ∙ ap (λ o. option_map (λ (y : File). as_first w y.file) o) is;
+  is = datafile-there w s files k x is;
   exists = exists-at (creation_of w x.file) s (owner (first_until w s ∷ []) 1 (creation_of w x.file)) 1 below (owner-first (first_until w s ∷ []) (creation_of w x.file));
 }
 
@@ -53,7 +57,7 @@ module _ (w : World) (e copies : Evidence) (i s : ℕ) (files : List File) (at :
       let k = item.place in
       let found = mapped (λ (x : File). x.file) (slice_get files k) of.item.1 (sym (slice_get-map (λ (x : File). x.file) files k) ∙ item.there) in
       let x = found.0 in
-      let target = exists-there w s files k x found.1 (all-solid w e copies i s files at are k x found.1).created in
+      let target = exists-there w s files k x found.1 (all-solid w e i s files at k x found.1).created in
       let y = map_from (λ (f : File). f.file) back (1 + k) ((there.numbers.exact (1 + k)).1 target) in
       let told = true-to-source w e copies i s files at are h back history agrees there y.item y.held in
       let place : y.item.file - 1 ≡ k = omega (arith, y.is) in

@@ -1,9 +1,9 @@
 -- The copies of a duplicate are valid pieces, and its records are a typed catalog's.
 use Rattle.std.specs.{Prelude.{sum_by}, List.{enumerate_from}, Option.{option_map, option_map_or}}
 use Rattle.std.proofs.Common.{◌≡◌, ◌<◌, ◌≤◌, ◌+◌, ◌-◌, ◌^◌, ◌∙◌, ℕ, List, [], ◌∷◌, None, Some, length, map, get_or, slice_get, Contains, All, AllPairs, refl, ap, arith}
-use Rattle.std.proofs.lemmas.List.{length-map, Elements.{All-contains, All-map, All-nil, Contains-get_or}, FromFn.{length-enumerate_from}}
+use Rattle.std.proofs.lemmas.List.{length-map, Elements.{All-map, All-nil, Contains-get_or}, FromFn.{length-enumerate_from}}
 use Rattle.std.proofs.lemmas.Option.{slice_get-get_or, slice_get-map, slice_get_within}
-use Rattle.rm_base.{specs.{Numbers.{last_scn}, declared.block.Row.{Row}}, proofs.{Lists.{map_to, pairs-mapped}, Members.{none-in}}}
+use Rattle.rm_base.{specs.{Numbers.{last_scn}, declared.block.Row.{Row}}, proofs.{Lists.{pairs-mapped}, Members.{none-in}}}
 use Rattle.rm_base.proofs.{Sealing.{length-sealed}, Slots.{all-get}, Numbered.{all-numbered, numbers-ascend}}
 use Rattle.rm_blocks.specs.File.{File}
 use Rattle.rm_catalog.specs.{Rules.{HasDatabase, IsCatalog}, Trees.{nodes}, declared.record.{LogEntry.{LogEntry}, PieceEntry.{PieceEntry}}}
@@ -19,10 +19,9 @@ use Rattle.rm_history.{specs.declared.{tree.Incarnation.{Incarnation}, world.Dat
 use Rattle.rm_history.proofs.{Owners.{owner-first}, Worlds.{file-there}}
 use Rattle.rm_piece.{specs.{Spelling.{body_of}, Valid.{IsPiece}, declared.piece.Piece.{Piece}}, proofs.Bodies.{length-body}}
 use Rattle.rm_piece.proofs.Fitting.{fits as piece-fits}
-use Rattle.rm_plan.specs.Plan.{IsFileTarget}
-use Rattle.rm_apply.{specs.{Recover.{outside}, Told.{AreFilesAt, IsTold}}, proofs.Numbers.{few-targets}}
+use Rattle.rm_apply.{specs.{Recover.{outside}, Told.{AreFilesAt}}, proofs.Numbers.{few-targets}}
 use Rattle.rm_dup.specs.{Copies.{as_first, copies_of, copy_as, first_until}, Entries.{catalog_of, entry_of, ledger_of, moment_in}}
-use Rattle.rm_dup.proofs.{Back.{IsSolid, member, solid}, Blocks.{few-blocks}, Source.{facts, within}}
+use Rattle.rm_dup.proofs.{Back.{file-target, file-told, is-solid, member}, Blocks.{few-blocks}, Source.{facts, within}}
 
 -- what is true of the copy of each datafile is true of all copies
 pub all-copies : (P : Piece → Type 0) (dbid s : ℕ) (xs : List File) → ((k : ℕ) (x : File) → slice_get xs k ≡ Some x → P (copy_as dbid s (1 + k, x))) → All P (copies_of dbid s xs)
@@ -69,15 +68,9 @@ module _ (rs : List Record) (catalog : IsCatalog rs) (database : HasDatabase rs)
   abbrev ledger : Ledger
   ledger = ledger_of (world_of rs) dbid (moment_in rs) s files
 
-  file-target : (x : File) → Contains files x → IsFileTarget (world_of rs) i s x.file
-  file-target x has = (at.numbers.exact x.file).0 (map_to (λ (y : File). y.file) files x has)
-
-  file-told : (x : File) → Contains files x → IsTold (world_of rs) (known_of e) i s x.file x
-  file-told x has = All-contains (λ (y : File). IsTold (world_of rs) (known_of e) i s y.file y) files x at.each has
-
   is-of : (x : File) → Contains files x → IsOf rs x
   is-of x has =
-      let target = file-target x has in
+      let target = file-target (world_of rs) (known_of e) i s files at x has in
       let found = file-there (world_of rs) x.file target.datafile target.is in
       record {
         datafile = target.datafile;
@@ -88,9 +81,6 @@ module _ (rs : List Record) (catalog : IsCatalog rs) (database : HasDatabase rs)
         fit = all-get (IsCreated (nodes rs)) (datafiles rs) (x.file - 1) target.datafile found.1 (datafiles-fit rs catalog).each;
       }
 
-  is-solid : (x : File) → Contains files x → IsSolid (world_of rs) s x
-  is-solid x has = solid (world_of rs) (known_of e) i s x (file-target x has) (file-told x has)
-
   few : length files ≤ 64
   few = omega (arith, few-targets rs i s (map (λ (x : File). x.file) files) catalog at.numbers, length-map files (λ (x : File). x.file))
 
@@ -99,8 +89,8 @@ module _ (rs : List Record) (catalog : IsCatalog rs) (database : HasDatabase rs)
   copy-valid k x is =
       let has = member files k x is in
       let of = is-of x has in
-      let told = file-told x has in
-      let rows = (is-solid x has).rows in
+      let told = file-told (world_of rs) (known_of e) i s files at x has in
+      let rows = (is-solid (world_of rs) (known_of e) i s files at x has).rows in
       let within = slice_get_within files k x is in
       let count = few in
       let sizes = of.fit.blocks in
@@ -137,7 +127,7 @@ module _ (rs : List Record) (catalog : IsCatalog rs) (database : HasDatabase rs)
   created-first x has =
       let of = is-of x has in
       let begun = begins of.datafile.inc of.fit.there in
-      let below = (is-solid x has).created in
+      let below = (is-solid (world_of rs) (known_of e) i s files at x has).created in
       record {
         there = (omega arith, omega arith);
         creation = (omega (arith, begun, of.fit.creation.0, of.created), omega (arith, below));
@@ -164,7 +154,7 @@ module _ (rs : List Record) (catalog : IsCatalog rs) (database : HasDatabase rs)
           datafile = as_first (world_of rs) x.file;
           is = ap (λ n. slice_get created n) back ∙ slice_get-map (λ (y : File). as_first (world_of rs) y.file) files k ∙ ap (λ o. option_map (λ (y : File). as_first (world_of rs) y.file) o) is;
           path = owner-first tree (creation_of (world_of rs) x.file);
-          rows = (file-told x has).blocks;
+          rows = (file-told (world_of rs) (known_of e) i s files at x has).blocks;
         };
         checkpoint = (omega (arith, low.0, low.1), omega arith);
         high = omega arith;

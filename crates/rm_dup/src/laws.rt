@@ -1,6 +1,7 @@
 //! What a duplicate is good for.
-ghost use Rattle.std.specs.Prelude.{◌≡◌, ◌<◌, ◌≤◌, ◌^◌, ℕ, List, None, Option, Some};
-ghost use Rattle.rm_apply.specs.{Files.{AreExactly}, Recover.{FindsGap, TellsAll, outside}, declared.recovering.Recovered.{Recovered}};
+ghost use Rattle.std.specs.Prelude.{◌≡◌, ◌<◌, ◌≤◌, ◌^◌, ℕ, List, None, Option, Some, map};
+ghost use Rattle.rm_apply.specs.{Files.{AreExactly}, Recover.{FindsGap, TellsAll, outside}, Restore.{Restores, backed_up}};
+ghost use Rattle.rm_apply.specs.declared.{origin.Origin.{Origin}, recovering.Recovered.{Recovered}};
 ghost use Rattle.rm_base.specs.{Store.{Held}, declared.block.Change.{Change}};
 ghost use Rattle.rm_catalog.specs.{Rules.{HasDatabase, IsCatalog}, Trees.{nodes}, declared.record.Record.{Record}};
 ghost use Rattle.rm_evidence.specs.{Database.{world_of}, Known.{known_of}, declared.evidence.InPlace.{InPlace}};
@@ -10,7 +11,8 @@ ghost use Rattle.rm_dup.specs.{Copies.{made_of}, Duplicate.{IsDuplicate}, Entrie
 ghost use Rattle.rm_dup.specs.declared.database.Duplicate.{Duplicate};
 
 /// A duplicate comes back: over its records and a store that has its copies, with nothing in place or with the copies
-/// restored, a recovery to incarnation 1 at the target is in range, and leaves no gap.
+/// restored, a recovery to incarnation 1 at the target is in range, and leaves no gap; and with nothing in place a restore
+/// to that target puts exactly the copies there.
 pub fn a_duplicate_comes_back()
     ensures range { (held : Option Held) (rs : List Record) (place : InPlace) (i s dbid : ℕ) (d : Duplicate)
         → IsCatalog rs → HasDatabase rs → IsThere (nodes rs) i → outside (nodes rs) i s ≡ None → (1 ≤ dbid) × (dbid < 2 ^ 32)
@@ -21,6 +23,11 @@ pub fn a_duplicate_comes_back()
     ensures no_gap_restored { (held : Option Held) (rs : List Record) (place : InPlace) (i s dbid : ℕ) (d : Duplicate) (to : Held) (x : Gap)
         → IsCatalog rs → HasDatabase rs → IsThere (nodes rs) i → outside (nodes rs) i s ≡ None → (1 ≤ dbid) × (dbid < 2 ^ 32)
         → IsDuplicate held rs place i s dbid d → HoldsCopies to d.pieces → ¬ FindsGap (Some to) d.records (restored d.pieces) 1 s x }
+    ensures restored { (held : Option Held) (rs : List Record) (place : InPlace) (i s dbid : ℕ) (d : Duplicate) (to : Held) (back : Recovered)
+        (origins : List Origin)
+        → IsCatalog rs → HasDatabase rs → IsThere (nodes rs) i → outside (nodes rs) i s ≡ None → (1 ≤ dbid) × (dbid < 2 ^ 32)
+        → IsDuplicate held rs place i s dbid d → HoldsCopies to d.pieces → Restores (Some to) d.records nothing 1 s None back origins
+        → back.files ≡ map backed_up d.pieces }
 {}
 
 /// What comes back is the source, with nothing in place or with the copies restored: exactly the datafiles that exist

@@ -1,4 +1,8 @@
 //! Why a call fails, and how that is told.
+ghost use Rattle.std.specs.Prelude.{◌≡◌, ◌↔◌};
+ghost use Rattle.rm_catalog.specs.declared.keeper.KeeperFail.TheVariants.{NoMemory as WantOfMemory};
+ghost use Rattle.rm_keeper_sql.specs.Faults.{WantsMemory};
+
 use rm_base::NoMemory;
 use rm_catalog::KeeperFail;
 use sqlite::{Error, ErrorCode};
@@ -42,8 +46,10 @@ impl fmt::Display for Fault {
     }
 }
 
-/// Want of memory is no failure.
-pub(crate) fn fail_of(fault: Fault) -> KeeperFail {
+/// Want of memory is no failure, and nothing else is want of memory.
+pub(crate) fn fail_of(fault: Fault) -> KeeperFail
+    ensures { result ≡ WantOfMemory ↔ WantsMemory fault }
+{
     match fault {
         Fault::NoMemory => KeeperFail::NoMemory,
         Fault::System(error) if error.kind() == io::ErrorKind::OutOfMemory => KeeperFail::NoMemory,

@@ -1,6 +1,7 @@
 //! The objects of a folder.
-ghost use Rattle.std.specs.Prelude.{◌≡◌, ◌≢◌, ◌<◌, ◌≤◌, ◌∷◌, [], true, length, IsTrue, IsErr, Some, None, IfOk, IfSome, OnOk, IsErrOf};
-ghost use Rattle.rm_base.specs.{Outside.{Rose}, Store.{Both, HasNow}, Numbers.{most_bytes}, declared.store.StoreFail.TheVariants.{Failed}};
+ghost use Rattle.std.specs.{IoError.{error_kind}, declared.io.ErrorKind.TheVariants.{OutOfMemory}};
+ghost use Rattle.std.specs.Prelude.{◌≡◌, ◌≢◌, ◌<◌, ◌≤◌, ◌↔◌, ◌∷◌, [], true, length, IsTrue, IsErr, Some, None, IfOk, IfSome, OnOk, IsErrOf};
+ghost use Rattle.rm_base.specs.{Outside.{Rose}, Store.{Both, HasNow}, Numbers.{most_bytes}, declared.store.StoreFail.TheVariants.{Failed, NoMemory as WantOfMemory}};
 ghost use Rattle.rm_store_dir.specs.{DirStore.{is_object, objects_of, KeepsOthers}, Folder.{MayHave}};
 
 use crate::dir::Dir;
@@ -113,6 +114,7 @@ impl<F: Folder> DirStore<F> {
         ensures failed { result ≡ Failed → Rose (faults_of self.old) (faults_of self.new) }
         ensures counted { result ≢ Failed → faults_of self.new ≡ faults_of self.old }
         ensures never_falls { faults_of self.old ≤ faults_of self.new }
+        ensures memory { result ≡ WantOfMemory ↔ (error_kind error ≡ OutOfMemory) }
     {
         if error.kind() == ErrorKind::OutOfMemory {
             return StoreFail::NoMemory;

@@ -11,7 +11,7 @@ use Rattle.rm_shelf.{specs.Shelved.{AllStay, Shelved, under}, proofs.Staying.{un
 use Rattle.rm_tool_opening.specs.{Opening.{IsSource, TellsValid}, Opens.{Opens, Shows}, declared.opening.Unopened.{Unopened}}
 use Rattle.rm_tool_opening.proofs.Source.{source-of}
 use Rattle.rm_tool_duplicate.specs.{Asked.{Sides, sides}, Duplicated.{IsMade, IsMadeOf, Makes, commit_of, lines_text}}
-use Rattle.rm_tool_duplicate.specs.{Ended.{Finishes, IsReady, Leaves, before_changes, in_changes, in_lines, in_refusal}, Refused.{Refuses}}
+use Rattle.rm_tool_duplicate.specs.{Ended.{Finishes, IsCarriedOut, IsReady, Leaves, before_changes, in_changes, in_lines, in_refusal}, Refused.{Refuses}}
 use Rattle.rm_tool_duplicate.specs.declared.preparing.Ready.{Ready}
 use Rattle.rm_tool_ends.specs.{Causes.{of_stop}, Writing.{WritesFront, WritesRefusal}, declared.ended.Ended.{Ended}}
 use Rattle.rm_tool_ends.specs.declared.ended.Ended.TheVariants as ended
@@ -102,19 +102,20 @@ module _ {x : DuplicateSaid} {a last : Sides} {before now : Option (List ℕ)} {
         subst (Leaves x a b before now) (sym same) (stopped-late x a b before now e p.is.duplicate p.stays.silent p.is.makes.source.valid p.is.makes here)
 
     module _ {y : A} (is : carried ≡ Ok y) (done : OnOk carried (Carried ready.change last.to last.target b.to b.target)) where
-      all-carried : Carried (commit_of p.is.duplicate) a.to a.target b.to b.target
-      all-carried =
-          coe 0 1 (i. Carried (p.is.change i) (p.stays.same i).to (p.stays.same i).target b.to b.target)
-          (on-ok (Carried ready.change last.to last.target b.to b.target) carried y is done)
+      carried-out : IsCarriedOut x a b p.is.duplicate
+      carried-out = record {
+        makes = p.is.makes;
+        carried = coe 0 1 (i. Carried (p.is.change i) (p.stays.same i).to (p.stays.same i).target b.to b.target)
+            (on-ok (Carried ready.change last.to last.target b.to b.target) carried y is done);
+      }
 
       pub untold-lines : {bytes : List ℕ} {after : Option (List ℕ)} → bytes ≡ ready.text → WritesFront now after bytes → Leaves x a b before after ended.Sink
       untold-lines {after = after} told front =
-          in_lines p.is.duplicate p.is.makes all-carried (coe 0 1 (i. WritesFront (p.stays.silent i) after (text told i)) front)
+          in_lines p.is.duplicate carried-out (coe 0 1 (i. WritesFront (p.stays.silent i) after (text told i)) front)
 
       pub finishes : {bytes : List ℕ} {after : Option (List ℕ)} → bytes ≡ ready.text → Appends now after bytes → Finishes x a b before after
       finishes {after = after} told written = record {
         duplicate = p.is.duplicate;
-        makes = p.is.makes;
-        carried = all-carried;
+        is = carried-out;
         written = coe 0 1 (i. Appends (p.stays.silent i) after (text told i)) written;
       }

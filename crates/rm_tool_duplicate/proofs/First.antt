@@ -20,11 +20,11 @@ not-both : (a b : Bool) → b ≡ a → (a && not b) ≡ false
 not-both true b is = ap not is
 not-both false b is = refl
 
-none-online : (s : State) (t n : ℕ) → ((u : ℕ) → is_online s.instance.logs u ≡ false) → online_logs s t n ≡ []
+pub none-online : (s : State) (t n : ℕ) → ((u : ℕ) → is_online s.instance.logs u ≡ false) → online_logs s t n ≡ []
 none-online s t zero none = refl
 none-online s t (suc n) none = ap (λ (b : Bool). cond b (online s t ∷ []) [] ++ online_logs s (t + 1) n) (none t) ∙ none-online s (t + 1) n none
 
-lost-logs : (c : TypedCatalog) (u : ℕ) → is_online (lost_instance c.ledger).logs u ≡ false
+pub lost-logs : (c : TypedCatalog) (u : ℕ) → is_online (lost_instance c.ledger).logs u ≡ false
 lost-logs c u = not-both (has_log (lost_instance c.ledger).logs u) (is_lost (lost_instance c.ledger).logs u) (all-lost c.ledger.base.dbid c.ledger.base.current (enabled_at c.ledger c.ledger.base.current (end_of c.ledger.tree c.ledger.base.current)) u)
 
 lost-place : (c : TypedCatalog) → in_place (record { catalog = c; instance = lost_instance c.ledger }) ≡ nothing
@@ -38,9 +38,13 @@ lost-place c =
 unsaved : (held : Held) (s : State) (saved : Option Saved) → s.catalog.saved ≡ saved → saved ≡ None → IsLoaded held s → s.instance ≡ lost_instance (ledger s)
 unsaved held s saved is none loaded = subst (IsLoadedBy held s) (is ∙ none) loaded
 
-pub first-place : (held : Held) (s : State) (c : TypedCatalog) → records_of s.catalog ≡ records_of c → c.saved ≡ None → IsLoaded held s → in_place s ≡ nothing
-first-place held s c same none loaded =
+-- what is loaded of a catalog without a saved site: all is lost
+pub first-loaded : (held : Held) (s : State) (c : TypedCatalog) → records_of s.catalog ≡ records_of c → c.saved ≡ None → IsLoaded held s → (s.catalog ≡ c) × (s.instance ≡ lost_instance (ledger s))
+first-loaded held s c same none loaded =
     let catalogs : Some s.catalog ≡ Some c = one-catalog (Some s.catalog) (Some c) same in
     let one : s.catalog ≡ c = cc in
-    let instance = unsaved held s s.catalog.saved refl (ap (λ (k : TypedCatalog). k.saved) one ∙ none) loaded in
-    ap (λ (i : Instance). in_place (record { catalog = s.catalog; instance = i })) instance ∙ lost-place s.catalog
+    (one, unsaved held s s.catalog.saved refl (ap (λ (k : TypedCatalog). k.saved) one ∙ none) loaded)
+
+pub first-place : (held : Held) (s : State) (c : TypedCatalog) → records_of s.catalog ≡ records_of c → c.saved ≡ None → IsLoaded held s → in_place s ≡ nothing
+first-place held s c same none loaded =
+    ap (λ (i : Instance). in_place (record { catalog = s.catalog; instance = i })) (first-loaded held s c same none loaded).1 ∙ lost-place s.catalog

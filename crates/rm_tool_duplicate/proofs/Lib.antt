@@ -6,6 +6,8 @@ pub mod Lines
 pub mod Made
 pub mod Naming
 pub mod Reasons
+pub mod Resting
+pub mod Restoring
 pub mod Standing
 pub mod Statuses
 pub mod Truth

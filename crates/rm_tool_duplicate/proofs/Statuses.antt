@@ -13,7 +13,7 @@ use Rattle.rm_tool_ends.specs.declared.ended.Ended.TheVariants as ended
 module _ {A : Type 0} (x : DuplicateSaid) (a b : Sides) (before now : Option (List ℕ)) (rs : List Record) (kept : a.source ≡ Some rs) where
   -- the source's records are not valid
   pub of-bad : (r : Result A Ended) → OnOk r (Finishes x a b before now) → IfErr r (Leaves x a b before now) → ¬ AreValid rs → Contains (9 ∷ 4 ∷ 6 ∷ 7 ∷ []) (status_of r)
-  of-bad (Ok y) done left bad = absurd (bad (told-valid rs kept done.makes.source.valid))
+  of-bad (Ok y) done left bad = absurd (bad (told-valid rs kept done.is.makes.source.valid))
   of-bad (Err ended.Refused) done left bad = absurd (bad (told-valid rs kept left.1.refuses.source.valid))
   of-bad (Err ended.BadRecord) done left bad = (0, lit< tt, refl)
   of-bad (Err ended.Sink) done left bad = (1, lit< tt, refl)

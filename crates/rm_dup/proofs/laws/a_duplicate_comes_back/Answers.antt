@@ -1,4 +1,4 @@
-use Rattle.rm_dup.proofs.Recovery.{no-gap-found, no-gap-restored, ranged}
+use Rattle.rm_dup.proofs.{Recovery.{no-gap-found, no-gap-restored, ranged}, Restored.{copies-restored}}
 use Rattle.rm_dup.proofs.laws.a_duplicate_comes_back.Goals as goal
 
 pub returns-clause-range : goal.returns-clause-range
@@ -9,3 +9,6 @@ returns-clause-no_gap c held rs place i s dbid d to x catalog database there ins
 
 pub returns-clause-no_gap_restored : goal.returns-clause-no_gap_restored
 returns-clause-no_gap_restored c held rs place i s dbid d to x catalog database there inside some is put = no-gap-restored rs catalog database held place i s dbid there inside some d is to put x
+
+pub returns-clause-restored : goal.returns-clause-restored
+returns-clause-restored c held rs place i s dbid d to back origins catalog database there inside some is put = copies-restored rs catalog database held place i s dbid there inside some d is to put back origins

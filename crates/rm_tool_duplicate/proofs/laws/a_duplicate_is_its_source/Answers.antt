@@ -1,20 +1,19 @@
-use Rattle.std.proofs.Common.{None, Some, List, ◌≡◌, ◌∙◌, inl, inr, ap, refl, sym, subst}
-use Rattle.rm_apply.specs.Recover.{FindsGap, TellsAll, outside}
+use Rattle.std.proofs.Common.{None, Some, List, ◌≡◌, ◌∙◌, inl, inr, ap, map, refl, sym, subst}
+use Rattle.rm_apply.specs.{Recover.{FindsGap, TellsAll, outside}, Restore.{Restores, backed_up}}
 use Rattle.rm_catalog.specs.{Rules.{HasDatabase, IsCatalog}, Trees.{nodes}, declared.record.Record.{Record}}
 use Rattle.rm_catalog_typed.{specs.TypedCatalog.{records_of}, proofs.Records.{database-told, world-told}}
-use Rattle.rm_dup.specs.{Copies.{made_of}, Entries.{catalog_of, moment_in}}
+use Rattle.rm_dup.specs.{Copies.{made_of}, Entries.{catalog_of, moment_in, nothing, restored}}
 use Rattle.rm_evidence.specs.{Database.{world_of}, Known.{known_of}, declared.evidence.InPlace.{InPlace}}
 use Rattle.rm_history.specs.{Evidence.{Agrees}, History.{IsHistory}, Tree.{IsThere}, declared.world.World.{World}}
-use Rattle.rm_machine.specs.Recovery.{in_place}
+use Rattle.rm_machine.specs.{Recovery.{in_place}, Restore.{restored as with_restored}}
 use Rattle.rm_machine_laws.proofs.Agreeing.{agreed}
 use Rattle.rm_tool_duplicate.{specs.Asked.{target_inc}, proofs.Back.{catalog, database, inside, recorded-as, stands, there}}
-use Rattle.rm_tool_duplicate.proofs.First.{first-place}
+use Rattle.rm_tool_duplicate.proofs.{First.{first-loaded, first-place}, Restoring.{restored-place}}
 use Rattle.rm_tool_duplicate.proofs.laws.a_duplicate_is_its_source.Goals as goal
 
 pub returns-clause-records : goal.returns-clause-records
-returns-clause-records c x a b before now rs is is_target =
+returns-clause-records c x a b d rs is is_target =
     let s = is.makes.state in
-    let d = is.duplicate in
     let made = is.makes.is in
     let same = recorded-as x a s d made b is.carried rs is_target in
     let rows = records_of s.catalog in
@@ -22,18 +21,32 @@ returns-clause-records c x a b before now rs is is_target =
     (same, subst (λ (qs : List Record). IsCatalog qs) (sym same) made.records, subst (λ (qs : List Record). HasDatabase qs) (sym same) is_database)
 
 pub returns-clause-first : goal.returns-clause-first
-returns-clause-first c x a b before now to t is is_target loaded =
+returns-clause-first c x a b d to t is is_target loaded =
     let s = is.makes.state in
-    let d = is.duplicate in
     let made = is.makes.is in
     let rows = records_of s.catalog in
     let same = recorded-as x a s d made b is.carried (records_of t.catalog) is_target in
     first-place to t (catalog_of (world_of rows) x.dbid (moment_in rows) x.until made.is.recovered.files) (same ∙ made.is.records) refl loaded
 
-pub returns-clause-range : goal.returns-clause-range
-returns-clause-range c x a b before now rs is is_target =
+pub returns-clause-restored : goal.returns-clause-restored
+returns-clause-restored c x a b d to t o is is_to is_target loaded restores =
     let s = is.makes.state in
-    let d = is.duplicate in
+    let made = is.makes.is in
+    let rows = records_of s.catalog in
+    let new = catalog_of (world_of rows) x.dbid (moment_in rows) x.until made.is.recovered.files in
+    let same = recorded-as x a s d made b is.carried (records_of t.catalog) is_target in
+    let first = first-loaded to t new (same ∙ made.is.records) refl loaded in
+    let here : Restores (Some to) d.records nothing 1 x.until None restores.back restores.origins =
+    coe 0 1 (j. Restores (Some to) (same j) (first-place to t new (same ∙ made.is.records) refl loaded j) ((first.0 j).ledger.base.current) x.until None restores.back restores.origins) restores.restores in
+    let back = c.a_duplicate_comes_back.ensures.restored a.from rows (in_place s) (target_inc x s) x.until x.dbid d to restores.back restores.origins
+    (catalog x a s d made) (database x a s d made) (there x a s d made) (inside x a s d made) made.dbid made.is (stands x a s d made b is.carried to is_to) here in
+    ap (λ fs. in_place (with_restored t fs)) (back ∙ ap (map backed_up) made.is.pieces)
+    ∙ restored-place to t (world_of rows) x.dbid (moment_in rows) x.until made.is.recovered.files (same ∙ made.is.records) loaded
+    ∙ ap restored (sym made.is.pieces)
+
+pub returns-clause-range : goal.returns-clause-range
+returns-clause-range c x a b d rs is is_target =
+    let s = is.makes.state in
     let made = is.makes.is in
     let same = recorded-as x a s d made b is.carried rs is_target in
     let range = c.a_duplicate_comes_back.ensures.range a.from (records_of s.catalog) (in_place s) (target_inc x s) x.until x.dbid d
@@ -41,9 +54,8 @@ returns-clause-range c x a b before now rs is is_target =
     subst (λ (qs : List Record). IsThere (nodes qs) 1 × (outside (nodes qs) 1 x.until ≡ None)) (sym same) range
 
 pub returns-clause-no_gap : goal.returns-clause-no_gap
-returns-clause-no_gap c x a b before now to rs place gap is is_to is_target stands_so =
+returns-clause-no_gap c x a b d to rs place gap is is_to is_target stands_so =
     let s = is.makes.state in
-    let d = is.duplicate in
     let made = is.makes.is in
     let same = recorded-as x a s d made b is.carried rs is_target in
     let back = c.a_duplicate_comes_back.ensures in
@@ -57,9 +69,8 @@ returns-clause-no_gap c x a b before now to rs place gap is is_to is_target stan
     λ found. none (subst (λ (qs : List Record). FindsGap (Some to) qs place 1 x.until gap) same found)
 
 pub returns-clause-blocks : goal.returns-clause-blocks
-returns-clause-blocks c x a b before now to rs place is is_to is_target stands_so = λ r holds tell.
+returns-clause-blocks c x a b d to rs place is is_to is_target stands_so = λ r holds tell.
     let s = is.makes.state in
-    let d = is.duplicate in
     let made = is.makes.is in
     let i = target_inc x s in
     let o = is.makes.source.opens r holds tell in
