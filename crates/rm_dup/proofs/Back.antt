@@ -38,7 +38,7 @@ pub record IsSolid (w : World) (s : ℕ) (x : File) : Type 0 where
   pub created : creation_of w x.file < s
   pub rows : (b : ℕ) (r : Row) → slice_get x.rows b ≡ Some r → (r.block ≡ b) × (creation_of w x.file ≤ r.version) × (r.version < s)
 
-solid : (w : World) (e : Evidence) (i s : ℕ) (x : File) → IsFileTarget w i s x.file → IsTold w e i s x.file x → IsSolid w s x
+pub solid : (w : World) (e : Evidence) (i s : ℕ) (x : File) → IsFileTarget w i s x.file → IsTold w e i s x.file x → IsSolid w s x
 solid w e i s x target told =
     let created : creation_of w x.file ≡ target.datafile.creation = ap (λ (o : Option Datafile). option_map_or (λ d. d.creation) o 0) target.is in
     let parts = exists_from target.datafile.creation s (owner w.tree i target.datafile.creation) target.datafile.inc target.exists in

@@ -8,6 +8,7 @@ use Rattle.rm_base.proofs.{Lists.{filter_from, filter_to, map_from, map_to, pair
 use Rattle.rm_blocks.specs.File.{File}
 use Rattle.rm_catalog.specs.{Rules.{HasDatabase, IsCatalog}, Trees.{nodes}, declared.record.Record.{Record}}
 use Rattle.rm_catalog_typed.specs.{Facts.{IsTypedCatalog}, LedgerFacts.{IsCreated}}
+use Rattle.rm_evidence.proofs.Fitting.{ascends}
 use Rattle.rm_evidence.specs.{Database.{world_of}, Known.{known_of}, declared.evidence.InPlace.{InPlace}}
 use Rattle.rm_history.specs.{Agrees.{BaseAgrees}, Evidence.{Agrees, Evidence}, History.{IsChange, IsHistory, SamePlace}, State.{state, states}, Tree.{IsThere, end_of, owner}}
 use Rattle.rm_history.specs.{World.{blocks_of, creation_of}, declared.world.{Datafile.{Datafile}, World.{World}}}
@@ -128,8 +129,8 @@ numbers-alike {X = X} dbid s f g k (x ∷ xs) each =
     λ j. first j ∷ rest j
 
 -- where a block is as it was created, its row has zero bytes
-abbrev pub IsNew : World → File → Type 0
-IsNew w x = (r : Row) → Contains x.rows r → r.version ≡ creation_of w x.file → r.content ≡ zero_block
+abbrev pub IsZeroWhereNew : World → File → Type 0
+IsZeroWhereNew w x = (r : Row) → Contains x.rows r → r.version ≡ creation_of w x.file → r.content ≡ zero_block
 
 module _ (w : World) (s : ℕ) (files : List File) (each : Each files (IsSolid w s)) where
   -- a row stands at its block
@@ -139,15 +140,10 @@ module _ (w : World) (s : ℕ) (files : List File) (each : Each files (IsSolid w
       ap (λ k. slice_get x.rows k) ((each n x is).rows has.0 r at).0 ∙ at
 
   rows-ascend : Each files (λ x. AllPairs IsBefore x.rows)
-  rows-ascend n x is b c d less inside =
-      let at : (k : ℕ) → k < length x.rows → (get_or x.rows k d).block ≡ k =
-      λ k lt. ((each n x is).rows k (get_or x.rows k d) (slice_get-get_or x.rows k d lt)).0 in
-      let one = at b (omega (arith, less, inside)) in
-      let two = at c inside in
-      omega (arith, one, two, less)
+  rows-ascend n x is = ascends x.rows (λ k r at. ((each n x is).rows k r at).0)
 
 module _ (w : World) (dbid moment s : ℕ) (files : List File) (typed : IsTypedCatalog (catalog_of w dbid moment s files))
-    (each : Each files (IsSolid w s)) (new : Each files (IsNew w)) where
+    (each : Each files (IsSolid w s)) (new : Each files (IsZeroWhereNew w)) where
   abbrev pub v : World
   v = duplicated w s files
 
@@ -279,7 +275,7 @@ module _ (rs : List Record) (catalog : IsCatalog rs) (database : HasDatabase rs)
   each : Each files (IsSolid w s)
   each = all-solid w e i s files is.tells.files
 
-  new : Each files (IsNew w)
+  new : Each files (IsZeroWhereNew w)
   new n x at r has created =
       let within = member files n x at in
       let row = read w s files each n x r at has in

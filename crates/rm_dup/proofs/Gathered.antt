@@ -7,7 +7,7 @@ use Rattle.rm_base.{specs.{Store.{Held}, declared.kinds.Kind.{Kind, TheVariants.
 use Rattle.rm_base.proofs.Members.{in-front, none-in}
 use Rattle.rm_blocks.specs.File.{File}
 use Rattle.rm_catalog.specs.declared.record.{PieceEntry.{PieceEntry}, Record.{Record}}
-use Rattle.rm_catalog_typed.specs.{Facts.{IsTypedCatalog}, TypedCatalog.{TypedCatalog, records_of}}
+use Rattle.rm_catalog_typed.specs.{Changes.{with_moment}, Facts.{IsTypedCatalog}, TypedCatalog.{TypedCatalog, records_of}}
 use Rattle.rm_catalog_typed.proofs.{Members.{log-in, piece-has, piece-in, set-in}, Records.{world-told}}
 use Rattle.rm_evidence.specs.{Available.{HasPieceObject}, Database.{database_in, dbid_in, world_of}}
 use Rattle.rm_evidence.specs.{Gathered.{IsBaseOf, IsGathered, IsLevel1Of, IsLogOf, IsPieceAmong, placed, placed_piece}, Known.{known_of}}
@@ -20,6 +20,10 @@ use Rattle.rm_redo.specs.{LogFile.{log_of}, declared.log_file.LogFile.{LogFile}}
 use Rattle.rm_dup.specs.{Copies.{copies_of, copy_as, duplicated}, Entries.{HoldsCopies, catalog_of, entry_of, standing}}
 use Rattle.rm_dup.proofs.Back.{AreCopies, base_as}
 
+-- the catalog of a duplicate, at this moment
+abbrev pub catalog_at : World → (dbid moment now s : ℕ) → List File → TypedCatalog
+catalog_at w dbid moment now s files = with_moment (catalog_of w dbid moment s files) now
+
 none-of : {X : Type 0} (xs : List X) → ((x : X) → ¬ Contains xs x) → xs ≡ []
 none-of [] none = refl
 none-of (x ∷ xs) none = absurd (none x (in-front x xs))
@@ -27,14 +31,14 @@ none-of (x ∷ xs) none = absurd (none x (in-front x xs))
 not-level1 : ¬ (◌≡◌ {A = Kind} Level0 Level1)
 not-level1 is = cc
 
-module _ (w : World) (dbid moment s : ℕ) (files : List File) (typed : IsTypedCatalog (catalog_of w dbid moment s files)) (valid : All IsPiece (copies_of dbid s files)) (held : Held)
+module _ (w : World) (dbid moment now s : ℕ) (files : List File) (typed : IsTypedCatalog (catalog_at w dbid moment now s files)) (valid : All IsPiece (copies_of dbid s files)) (held : Held)
     (put : HoldsCopies held (copies_of dbid s files)) (stand : List File) (from : (x : File) → Contains stand x → Contains (map backed_up (copies_of dbid s files)) x) (e : Evidence)
-    (is : IsGathered held (records_of (catalog_of w dbid moment s files)) (standing stand) e) where
+    (is : IsGathered held (records_of (catalog_at w dbid moment now s files)) (standing stand) e) where
   abbrev copies : List Piece
   copies = copies_of dbid s files
 
   abbrev new : TypedCatalog
-  new = catalog_of w dbid moment s files
+  new = catalog_at w dbid moment now s files
 
   abbrev rs : List Record
   rs = records_of new
@@ -145,5 +149,5 @@ module _ (w : World) (dbid moment s : ℕ) (files : List File) (typed : IsTypedC
   }
 
 -- the database that the records of a duplicate tell
-pub duplicate-told : (w : World) (dbid moment s : ℕ) (files : List File) → world_of (records_of (catalog_of w dbid moment s files)) ≡ duplicated w s files
-duplicate-told w dbid moment s files = world-told (catalog_of w dbid moment s files)
+pub duplicate-told : (w : World) (dbid moment now s : ℕ) (files : List File) → world_of (records_of (catalog_at w dbid moment now s files)) ≡ duplicated w s files
+duplicate-told w dbid moment now s files = world-told (catalog_at w dbid moment now s files)

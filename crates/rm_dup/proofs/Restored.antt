@@ -3,7 +3,7 @@ use Rattle.std.specs.{List.{enumerate_from}}
 use Rattle.std.proofs.Common.{◌≡◌, ◌<◌, ◌≤◌, ◌+◌, ◌-◌, ◌^◌, ◌∙◌, ℕ, true, List, [], ◌∷◌, Option, None, Some, map, slice_get, Contains, refl, sym, ap, subst, arith}
 use Rattle.std.proofs.lemmas.{List.Elements.{All-contains}, Option.{same_Some, slice_get-map}}
 use Rattle.rm_base.specs.Store.{Held}
-use Rattle.rm_base.proofs.{Lists.{map_from, map_to, pairs-mapped}, Members.{behind, in-front, none-in}, Numbered.{numbered-at, numbered-of, numbers-ascend}, OneOrder.{one-order}}
+use Rattle.rm_base.proofs.{Lists.{map_from, map_to, pairs-mapped}, Members.{behind, in-front, none-in}, Numbered.{numbered-at, numbered-of}, OneOrder.{one-order}}
 use Rattle.rm_blocks.specs.File.{File}
 use Rattle.rm_catalog.specs.{Rules.{HasDatabase, IsCatalog}, Trees.{nodes}, declared.record.Record.{Record}}
 use Rattle.rm_catalog_typed.specs.TypedCatalog.{records_of}
@@ -14,10 +14,10 @@ use Rattle.rm_piece.specs.declared.piece.Piece.{Piece}
 use Rattle.rm_apply.specs.{Files.{AreExactly, IsAsked}, Recover.{outside}, Restore.{AreRestored, IsBackupFor, IsRestoration, MayRestore, Restoration, Restores, backed_up, file_by}}
 use Rattle.rm_apply.specs.Restore.{restored as restored_of}
 use Rattle.rm_apply.specs.declared.{origin.Origin.{Origin}, recovering.Recovered.{Recovered}}
-use Rattle.rm_dup.specs.{Copies.{as_first, copies_of, copy_as, duplicated, first_until}, Duplicate.{IsDuplicate}, Entries.{HoldsCopies, catalog_of, moment_in, nothing}, declared.database.Duplicate.{Duplicate}}
-use Rattle.rm_dup.proofs.{Back.{all-solid, mapped}, Gathered.{backup-is, backup-there, duplicate-told}, Made.{exists-there}, Whole.{catalog-is, pieces-valid}}
+use Rattle.rm_dup.specs.{Copies.{as_first, copies_of, copy_as, duplicated, first_until}, Duplicate.{IsDuplicate}, Entries.{AreLater, HoldsCopies, moment_in, nothing}, declared.database.Duplicate.{Duplicate}}
+use Rattle.rm_dup.proofs.{Back.{all-solid, mapped}, Gathered.{backup-is, backup-there, catalog_at, duplicate-told}, Made.{exists-there}, Recovery.{records-later, typed-later}, Valid.{copies-ascend}, Whole.{pieces-valid}}
 
--- of one incarnation, what it tells holds on its path
+-- an incarnation that is the only one is on its own path, up to any SCN
 own : (n : Incarnation) (high : ℕ) → is_within (n ∷ []) 1 1 high ≡ true
 unfolding is_on_path segment_end
 own n high = refl
@@ -46,13 +46,13 @@ module _ (w : World) (dbid s : ℕ) (files : List File) (bases : List (ℕ × Pi
   v = duplicated w s files
 
   -- a copy is that of a datafile, under its number
-  record IsOf (a : Piece) : Type 0 where
+  record IsCopyOf (a : Piece) : Type 0 where
     place : ℕ
     file : File
     there : slice_get files place ≡ Some file
     is : copy_as dbid s (1 + place, file) ≡ a
 
-  copy-of : (a : Piece) → Contains copies a → IsOf a
+  copy-of : (a : Piece) → Contains copies a → IsCopyOf a
   copy-of a has =
       let from = map_from (copy_as dbid s) (enumerate_from 1 files) a has in
       let of = numbered-of 1 files from.item from.held in
@@ -102,9 +102,7 @@ module _ (w : World) (dbid s : ℕ) (files : List File) (bases : List (ℕ × Pi
   numbers-are : (ns : List ℕ) → AreExactly (IsAsked v 1 s None) ns → ns ≡ numbers
   numbers-are ns asked =
       one-order (λ m n. m < n) (λ m n less more. omega (arith, less, more)) ns numbers asked.ascends
-      (pairs-mapped (λ (a : Piece). a.file) (λ (a b : Piece). a.file < b.file) (λ m n. m < n) (λ a b less. less) copies
-      (pairs-mapped (copy_as dbid s) (λ (p q : ℕ × File). p.0 < q.0) (λ (a b : Piece). a.file < b.file) (λ p q less. less) (enumerate_from 1 files)
-      (numbers-ascend 1 files)))
+      (pairs-mapped (λ (a : Piece). a.file) (λ (a b : Piece). a.file < b.file) (λ m n. m < n) (λ a b less. less) copies (copies-ascend dbid s files))
       (λ n. (
         λ has.
             let target = ((asked.exact n).0 has).0 in
@@ -126,7 +124,8 @@ module _ (w : World) (dbid s : ℕ) (files : List File) (bases : List (ℕ × Pi
 
 module _ (rs : List Record) (catalog : IsCatalog rs) (database : HasDatabase rs) (held : Option Held) (place : InPlace) (i s dbid : ℕ)
     (there : IsThere (nodes rs) i) (inside : outside (nodes rs) i s ≡ None)
-    (some : (1 ≤ dbid) × (dbid < 2 ^ 32)) (d : Duplicate) (is : IsDuplicate held rs place i s dbid d) (to : Held) (put : HoldsCopies to d.pieces) where
+    (some : (1 ≤ dbid) × (dbid < 2 ^ 32)) (d : Duplicate) (is : IsDuplicate held rs place i s dbid d) (later : List Record)
+    (due : AreLater d.records later) (to : Held) (put : HoldsCopies to d.pieces) where
   abbrev w : World
   w = world_of rs
 
@@ -134,22 +133,23 @@ module _ (rs : List Record) (catalog : IsCatalog rs) (database : HasDatabase rs)
   files = is.recovered.files
 
   abbrev new : List Record
-  new = records_of (catalog_of w dbid (moment_in rs) s files)
+  new = records_of (catalog_at w dbid (moment_in rs) due.moment s files)
 
   -- with nothing in place, a restore to (1, s) puts the copies there
-  pub copies-restored : (back : Recovered) (origins : List Origin) → Restores (Some to) d.records nothing 1 s None back origins
+  pub copies-restored : (back : Recovered) (origins : List Origin) → Restores (Some to) later nothing 1 s None back origins
       → back.files ≡ map backed_up d.pieces
   copies-restored back origins restores =
       let here : Restores (Some to) new nothing 1 s None back origins =
-      subst (λ (xs : List Record). Restores (Some to) xs nothing 1 s None back origins) is.records restores in
-      let told = duplicate-told w dbid (moment_in rs) s files in
-      let typed = catalog-is rs catalog database held place i s dbid there inside some is.recovered is.tells in
+      subst (λ (xs : List Record). Restores (Some to) xs nothing 1 s None back origins)
+      (records-later rs catalog database held place i s dbid there inside some d is later due) restores in
+      let told = duplicate-told w dbid (moment_in rs) due.moment s files in
+      let typed = typed-later rs catalog database held place i s dbid there inside some d is later due in
       let valid = pieces-valid rs catalog database held place i s dbid there inside some is.recovered is.tells in
       let stand = subst (λ ps. HoldsCopies to ps) is.pieces put in
       let bare : (x : File) → Contains [] x → Contains (map backed_up (copies_of dbid s files)) x = λ x has. absurd (none-in x has) in
       files-are w dbid s files here.evidence.bases
-      (backup-is w dbid (moment_in rs) s files typed valid to stand [] bare here.evidence here.is.at_hand)
-      (backup-there w dbid (moment_in rs) s files typed valid to stand [] bare here.evidence here.is.at_hand)
+      (backup-is w dbid (moment_in rs) due.moment s files typed valid to stand [] bare here.evidence here.is.at_hand)
+      (backup-there w dbid (moment_in rs) due.moment s files typed valid to stand [] bare here.evidence here.is.at_hand)
       (λ k x at. (all-solid w (known_of is.tells.evidence) i s files is.tells.files k x at).created)
       here.numbers back.files origins
       (subst (λ (v : World). AreExactly (IsAsked v 1 s None) here.numbers) told here.asked)

@@ -13,7 +13,7 @@ use Rattle.rm_catalog_typed.specs.LedgerFacts.{AreIds, AreIncarnations, IsCreate
 use Rattle.rm_catalog_typed.proofs.{Fitted.{many}, Fresh.{one_incarnation, one_mark}, Ledgers.{datafiles-fit, incarnations}}
 use Rattle.rm_catalog_typed.proofs.Trees.{first-begins}
 use Rattle.rm_evidence.specs.{Database.{datafiles, world_of}, Known.{FitsTree, known_of}, declared.evidence.Evidence.{Evidence}}
-use Rattle.rm_evidence.proofs.Contents.{seen-content}
+use Rattle.rm_evidence.proofs.{Contents.{seen-content}, Fitting.{ascends}}
 use Rattle.rm_history.specs.{Tree.{IsThere, end_of, owner, reset_of}, World.{blocks_of, creation_of}}
 use Rattle.rm_history.{specs.declared.{tree.Incarnation.{Incarnation}, world.Datafile.{Datafile}}, proofs.Highs.{high-bound, high-least}}
 use Rattle.rm_history.proofs.{Owners.{owner-first}, Worlds.{file-there}}
@@ -27,11 +27,16 @@ use Rattle.rm_dup.proofs.{Back.{file-target, file-told, is-solid, member}, Block
 pub all-copies : (P : Piece → Type 0) (dbid s : ℕ) (xs : List File) → ((k : ℕ) (x : File) → slice_get xs k ≡ Some x → P (copy_as dbid s (1 + k, x))) → All P (copies_of dbid s xs)
 all-copies P dbid s xs each = All-map P (copy_as dbid s) (enumerate_from 1 xs) (all-numbered 1 xs (λ (p : ℕ × File). P (copy_as dbid s p)) each)
 
--- the ids of the copies ascend
+-- the copies ascend by number, and so do their ids
+pub copies-ascend : (dbid s : ℕ) (xs : List File) → AllPairs (λ (a b : Piece). a.file < b.file) (copies_of dbid s xs)
+copies-ascend dbid s xs =
+    pairs-mapped (copy_as dbid s) (λ (p q : ℕ × File). p.0 < q.0) (λ (a b : Piece). a.file < b.file) (λ p q less. less) (enumerate_from 1 xs)
+    (numbers-ascend 1 xs)
+
 ids-ascend : (moment dbid s : ℕ) (xs : List File) → AllPairs (λ (p q : PieceEntry). p.id < q.id) (map (entry_of moment) (copies_of dbid s xs))
 ids-ascend moment dbid s xs =
     pairs-mapped (entry_of moment) (λ (a b : Piece). a.file < b.file) (λ (p q : PieceEntry). p.id < q.id) (λ a b less. less) (copies_of dbid s xs)
-    (pairs-mapped (copy_as dbid s) (λ (p q : ℕ × File). p.0 < q.0) (λ (a b : Piece). a.file < b.file) (λ p q less. less) (enumerate_from 1 xs) (numbers-ascend 1 xs))
+    (copies-ascend dbid s xs)
 
 -- a datafile of the source, and what is known of it
 record IsOf (rs : List Record) (x : File) : Type 0 where
@@ -104,10 +109,7 @@ module _ (rs : List Record) (catalog : IsCatalog rs) (database : HasDatabase rs)
         blocks = (omega (arith, of.size, told.blocks, sizes.0), omega (arith, of.size, told.blocks, sizes.1));
         checkpoint = (omega (arith, low.0, low.1), low.2);
         kind = (refl, refl);
-        ascend = λ b c d less lt.
-            let one = (rows b (get_or x.rows b d) (read b d (omega (arith, less, lt)))).0 in
-            let two = (rows c (get_or x.rows c d) (read c d lt)).0 in
-            omega (arith, one, two, less);
+        ascend = ascends x.rows (λ b r at. (rows b r at).0);
         rows = λ b d lt.
             let row = rows b (get_or x.rows b d) (read b d lt) in
             record {

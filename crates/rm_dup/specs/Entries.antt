@@ -1,10 +1,10 @@
 -- The records of a duplicate.
-use Rattle.std.specs.{Prelude.{◌≡◌, ◌+◌, ℕ, true, false, codes, List, [], ◌∷◌, None, Some, Contains, length, map}, Option.{option_map_or}}
+use Rattle.std.specs.{Prelude.{◌≡◌, ◌≤◌, ◌+◌, ℕ, true, false, codes, List, [], ◌∷◌, None, Some, Contains, length, map}, Option.{option_map_or}}
 use Rattle.rm_apply.specs.Restore.{backed_up}
-use Rattle.rm_base.specs.{Store.{Held}, declared.kinds.Policy.TheVariants.{Redundancy}}
+use Rattle.rm_base.specs.{Numbers.{last_moment}, Store.{Held}, declared.kinds.Policy.TheVariants.{Redundancy}}
 use Rattle.rm_blocks.specs.File.{File}
 use Rattle.rm_catalog.specs.{Keys.{base}, declared.record.{PieceEntry.{PieceEntry}, Record.{Record}}}
-use Rattle.rm_catalog_typed.specs.{Ledger.{Ledger}, TypedCatalog.{TypedCatalog}}
+use Rattle.rm_catalog_typed.specs.{Changes.{with_moment}, Ledger.{Ledger}, TypedCatalog.{TypedCatalog, records_of}}
 use Rattle.rm_evidence.specs.{Names.{piece_name}, Objects.{piece_entry}, declared.evidence.InPlace.{InPlace}}
 use Rattle.rm_history.specs.declared.world.World.{World}
 use Rattle.rm_piece.specs.{Spelling.{spelling}, declared.piece.Piece.{Piece}}
@@ -44,6 +44,15 @@ ledger_of w dbid moment s files =
 -- without a saved site
 abbrev pub catalog_of : World → (dbid moment s : ℕ) → List File → TypedCatalog
 catalog_of w dbid moment s files = record { ledger = ledger_of w dbid moment s files; saved = None }
+
+-- These are the records, but for the moment that they keep, which may be a later one: as a statement finds them at its moment.
+pub record AreLater (rs now : List Record) : Type 0 where
+  pub catalog : TypedCatalog
+  pub of : records_of catalog ≡ rs
+  pub moment : ℕ
+  pub kept : catalog.ledger.base.moment ≤ moment
+  pub last : moment ≤ last_moment
+  pub is : now ≡ records_of (with_moment catalog moment)
 
 -- each copy stands under its name
 abbrev pub HoldsCopies : Held → List Piece → Type 0

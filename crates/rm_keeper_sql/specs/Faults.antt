@@ -5,7 +5,7 @@ use Rattle.sqlite.specs.declared.error.Error.TheVariants.{SqliteFailure}
 use Rattle.sqlite.specs.declared.error.ErrorCode.TheVariants as code
 use Rattle.rm_keeper_sql.specs.declared.fault.Fault.{Fault, TheVariants.{NoMemory, NoRecord, NotOurs, Sqlite, System}}
 
--- by a call of the system or of sqlite, or told so by one of this crate
+-- of a crate below, of the system, or of sqlite
 abbrev pub WantsMemory : Fault → Type 0
 WantsMemory NoMemory = ⊤
 WantsMemory (System e) = error_kind e ≡ io.OutOfMemory

@@ -48,7 +48,7 @@ impl fmt::Display for Fault {
 
 /// Want of memory is no failure, and nothing else is want of memory.
 pub(crate) fn fail_of(fault: Fault) -> KeeperFail
-    ensures { result ≡ WantOfMemory ↔ WantsMemory fault }
+    ensures memory { result ≡ WantOfMemory ↔ WantsMemory fault }
 {
     match fault {
         Fault::NoMemory => KeeperFail::NoMemory,

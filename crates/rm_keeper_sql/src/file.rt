@@ -1,7 +1,8 @@
 //! The catalog in a file.
-ghost use Rattle.std.specs.Prelude.{◌≡◌, ◌≢◌, ◌≤◌};
+ghost use Rattle.std.specs.Prelude.{◌≡◌, ◌≢◌, ◌≤◌, ◌↔◌};
 ghost use Rattle.rm_base.specs.Outside.{Rose};
-ghost use Rattle.rm_catalog.specs.declared.keeper.KeeperFail.TheVariants.{Failed};
+ghost use Rattle.rm_catalog.specs.declared.keeper.KeeperFail.TheVariants.{Failed, NoMemory};
+ghost use Rattle.rm_keeper_sql.specs.Faults.{WantsMemory};
 
 use crate::fault::{Fault, fail_of, words_of};
 use crate::keeper::SqlKeeper;
@@ -41,6 +42,7 @@ impl Unopened {
     // One whose calls fail by this fault.
     fn by(alloc: Global, fault: Fault) -> Self
         ensures faults { faults_without result ≡ 0 }
+        ensures memory { cause_of result ≡ NoMemory ↔ WantsMemory fault }
     {
         Unopened::new(fail_of(fault), words_of(alloc, fault))
     }

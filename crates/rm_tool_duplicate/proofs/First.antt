@@ -27,7 +27,7 @@ none-online s t (suc n) none = ap (λ (b : Bool). cond b (online s t ∷ []) [] 
 pub lost-logs : (c : TypedCatalog) (u : ℕ) → is_online (lost_instance c.ledger).logs u ≡ false
 lost-logs c u = not-both (has_log (lost_instance c.ledger).logs u) (is_lost (lost_instance c.ledger).logs u) (all-lost c.ledger.base.dbid c.ledger.base.current (enabled_at c.ledger c.ledger.base.current (end_of c.ledger.tree c.ledger.base.current)) u)
 
-lost-place : (c : TypedCatalog) → in_place (record { catalog = c; instance = lost_instance c.ledger }) ≡ nothing
+pub lost-place : (c : TypedCatalog) → in_place (record { catalog = c; instance = lost_instance c.ledger }) ≡ nothing
 lost-place c =
     let s : State = record { catalog = c; instance = lost_instance c.ledger } in
     let files = none-placed 1 (length c.ledger.files) in
@@ -38,7 +38,7 @@ lost-place c =
 unsaved : (held : Held) (s : State) (saved : Option Saved) → s.catalog.saved ≡ saved → saved ≡ None → IsLoaded held s → s.instance ≡ lost_instance (ledger s)
 unsaved held s saved is none loaded = subst (IsLoadedBy held s) (is ∙ none) loaded
 
--- what is loaded of a catalog without a saved site: all is lost
+-- what is loaded of records without a saved site: their catalog, and all is lost
 pub first-loaded : (held : Held) (s : State) (c : TypedCatalog) → records_of s.catalog ≡ records_of c → c.saved ≡ None → IsLoaded held s → (s.catalog ≡ c) × (s.instance ≡ lost_instance (ledger s))
 first-loaded held s c same none loaded =
     let catalogs : Some s.catalog ≡ Some c = one-catalog (Some s.catalog) (Some c) same in

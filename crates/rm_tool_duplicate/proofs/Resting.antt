@@ -1,6 +1,6 @@
 -- A duplicate that was made is a database at rest.
 use Rattle.std.specs.List.{enumerate_from}
-use Rattle.std.proofs.Common.{◌≡◌, ◌<◌, ◌+◌, ◌^◌, ◌∙◌, inr, ℕ, List, [], Some, map, slice_get, Contains, All, refl, ap, subst, sym, arith}
+use Rattle.std.proofs.Common.{◌≡◌, ◌<◌, ◌+◌, ◌^◌, ◌∙◌, inr, ℕ, List, [], Some, length, map, slice_get, Contains, All, refl, ap, subst, sym, arith}
 use Rattle.std.proofs.lemmas.{List.{length-map, Elements.{All-contains}}, Option.{slice_get_within}}
 use Rattle.rm_base.specs.{Store.{Held}, declared.block.Change.{Change}}
 use Rattle.rm_base.proofs.{Lists.{map_from, map_to}, Members.{none-in}, Numbered.{numbered-at}}
@@ -21,8 +21,8 @@ use Rattle.rm_tool_duplicate.specs.{Asked.{Sides, target_inc}, Duplicated.{IsMad
 use Rattle.rm_tool_duplicate.proofs.Back.{catalog, database, inside, recorded-as, stands, there}
 
 -- the object of a copy, as it was made
-abbrev made_as : Piece → Made
-made_as a = record { name = copy_name a.file; artefact = a_piece a }
+abbrev made_copy : Piece → Made
+made_copy a = record { name = copy_name a.file; artefact = a_piece a }
 
 module _ (w : World) (dbid moment s : ℕ) (files : List File) (typed : IsTypedCatalog (catalog_of w dbid moment s files)) (few : dbid < 2 ^ 32)
     (valid : All IsPiece (copies_of dbid s files)) (to : Held) (stand : HoldsCopies to (copies_of dbid s files)) (made : List File) (h : List Change)
@@ -34,7 +34,7 @@ module _ (w : World) (dbid moment s : ℕ) (files : List File) (typed : IsTypedC
   new = catalog_of w dbid moment s files
 
   abbrev all_made : List Made
-  all_made = map made_as copies
+  all_made = map made_copy copies
 
   true-copy : (k : ℕ) (x : File) → slice_get files k ≡ Some x → IsTrueArtefact (duplicated w s files) h (a_piece (copy_as dbid s (1 + k, x)))
   true-copy k x is =
@@ -55,7 +55,7 @@ module _ (w : World) (dbid moment s : ℕ) (files : List File) (typed : IsTypedC
   has-artefact : (a : Piece) → Contains copies a → HasPieceArtefact to all_made [] (entry_of moment a)
   has-artefact a has = record {
     artefact = a;
-    is = map_to made_as copies a has;
+    is = map_to made_copy copies a has;
     fields = record { kind = refl; inc = refl; file = refl; from = refl; checkpoint = refl; high = refl; rows = refl };
     digest = record { size = refl; sha = refl };
     there = inr (stand a has);
@@ -68,7 +68,7 @@ module _ (w : World) (dbid moment s : ℕ) (files : List File) (typed : IsTypedC
     history = lives.history;
     below = lives.below;
     artefacts = λ y has.
-        let of = map_from made_as copies y has in
+        let of = map_from made_copy copies y has in
         subst (λ (z : Made). IsTrueArtefact (duplicated w s files) h z.artefact) of.is
         (All-contains (λ a. IsTrueArtefact (duplicated w s files) h (a_piece a)) copies of.item all-true of.held);
     records = record {
@@ -104,7 +104,7 @@ module _ (x : DuplicateSaid) (a b : Sides) (s : State) (d : Duplicate) (made : I
       (subst (λ (w : World). IsHistory w g) told history) (subst (λ (w : World). Agrees w g (known_of made.is.tells.evidence)) told agrees)
 
   abbrev rest : Rest
-  rest = record { catalog = Some made_catalog; history = life.0; objects = to; made = map made_as (copies_of x.dbid x.until files); touched = [] }
+  rest = record { catalog = Some made_catalog; history = life.0; objects = to; made = map made_copy (copies_of x.dbid x.until files); touched = [] }
 
   rests : (r : Rest) × HoldsRest (Some to) (Some rs) r × PartsTell r × IsTrueCopy (world s) g i x.until d r
   rests =
@@ -125,6 +125,9 @@ module _ (x : DuplicateSaid) (a b : Sides) (s : State) (d : Duplicate) (made : I
           catalog = made_catalog;
           is = refl;
           untouched = refl;
+          many =
+              length-map files (λ (y : File). as_first (world_of source) y.file)
+              ∙ sym (ap (λ (ns : List ℕ). length ns) made.is.from ∙ length-map files (λ (y : File). y.file));
           blocks = life.1.is ∙ ap (λ (w : World). made_of w g i x.until d.from) (world-told s.catalog);
         },
       )

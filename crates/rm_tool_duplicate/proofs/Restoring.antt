@@ -8,15 +8,16 @@ use Rattle.rm_blocks.specs.File.{File}
 use Rattle.rm_catalog_typed.specs.TypedCatalog.{records_of}
 use Rattle.rm_dup.specs.{Copies.{as_first, copies_of, copy_as}, Entries.{catalog_of, restored as standing_copies}}
 use Rattle.rm_history.specs.declared.world.World.{World}
-use Rattle.rm_machine.specs.{Damage.{undamaged}, Loading.{IsLoaded, lost_instance}, Recovery.{in_place, online_logs, put_over}, Restore.{restored}, State.{counted}}
+use Rattle.rm_machine.specs.{Damage.{undamaged}, Loading.{IsLoaded, lost_instance}, Recovery.{in_place, online_logs, put_over}, Restore.{restored}, State.{at_moment, counted}}
 use Rattle.rm_machine.specs.declared.state.{Instance.{Instance}, State.{State}}
+use Rattle.rm_machine.proofs.Undamaged.{undamaged-none}
 use Rattle.rm_tool_duplicate.proofs.First.{first-loaded, lost-logs, none-online}
 
 -- these places are filled
 abbrev filled : List File → List (Option File)
 filled xs = map (λ (x : File). Some x) xs
 
--- the place behind those that are filled is
+-- the place behind those that are filled is filled
 fill : (front : List File) (o : Option File) (rest : List (Option File)) (x : File)
     → slice_set (filled front ++ o ∷ rest) (length front) (Some x) ≡ filled front ++ Some x ∷ rest
 fill [] o rest x = refl
@@ -50,15 +51,15 @@ module _ (dbid s : ℕ) where
       ∙ ap (λ n. filled (front ++ y ∷ []) ++ filled (backs n xs)) next
       ∙ one-more front y (filled later)
 
--- where none is damaged, what is in place are those that fill the places
-in-place : (k : ℕ) (xs : List File) → filter_map (λ (o : Option File). o) (undamaged [] k (filled xs)) ≡ xs
-in-place k [] = refl
-in-place k (x ∷ xs) = ap (λ ys. x ∷ ys) (in-place (k + 1) xs)
+-- all that fill the places are there
+all-filled : (xs : List File) → filter_map (λ (o : Option File). o) (filled xs) ≡ xs
+all-filled [] = refl
+all-filled (x ∷ xs) = ap (λ ys. x ∷ ys) (all-filled xs)
 
 module _ (held : Held) (s : State) (w : World) (dbid moment at : ℕ) (files : List File)
-    (same : records_of s.catalog ≡ records_of (catalog_of w dbid moment at files)) (loaded : IsLoaded held s) where
+    (same : records_of s.catalog ≡ records_of (catalog_of w dbid moment at files)) (loaded : IsLoaded held s) (now : ℕ) where
   abbrev after : Instance → State
-  after i = restored (record { catalog = catalog_of w dbid moment at files; instance = i }) (map backed_up (copies_of dbid at files))
+  after i = restored (at_moment (record { catalog = catalog_of w dbid moment at files; instance = i }) now) (map backed_up (copies_of dbid at files))
 
   lost-filled : in_place (after (lost_instance (catalog_of w dbid moment at files).ledger)) ≡ standing_copies (copies_of dbid at files)
   lost-filled =
@@ -68,13 +69,13 @@ module _ (held : Held) (s : State) (w : World) (dbid moment at : ℕ) (files : L
       ap (λ n. put_over backs_of (replicate n None)) (length-map files (λ (x : File). as_first w x.file)) ∙ fill-all dbid at [] files in
       let stand : map (counted t) (filter_map (λ (o : Option File). o) (undamaged [] 1 t.instance.place)) ≡ backs_of =
       map-id (filter_map (λ (o : Option File). o) (undamaged [] 1 t.instance.place))
-      ∙ ap (λ (ps : List (Option File)). filter_map (λ (o : Option File). o) (undamaged [] 1 ps)) places
-      ∙ in-place 1 backs_of in
+      ∙ ap (λ (ps : List (Option File)). filter_map (λ (o : Option File). o) ps) (undamaged-none 1 t.instance.place ∙ places)
+      ∙ all-filled backs_of in
       let logs : online_logs t 1 4 ≡ [] = none-online t 1 4 (lost-logs (catalog_of w dbid moment at files)) in
       λ j. record { files = stand j; logs = logs j }
 
-  pub restored-place : in_place (restored s (map backed_up (copies_of dbid at files))) ≡ standing_copies (copies_of dbid at files)
+  pub restored-place : in_place (restored (at_moment s now) (map backed_up (copies_of dbid at files))) ≡ standing_copies (copies_of dbid at files)
   restored-place =
       let first = first-loaded held s (catalog_of w dbid moment at files) same refl loaded in
       let instance : s.instance ≡ lost_instance (catalog_of w dbid moment at files).ledger = first.1 ∙ ap (λ c. lost_instance c.ledger) first.0 in
-      (λ j. in_place (restored (record { catalog = first.0 j; instance = instance j }) (map backed_up (copies_of dbid at files)))) ∙ lost-filled
+      (λ j. in_place (restored (at_moment (record { catalog = first.0 j; instance = instance j }) now) (map backed_up (copies_of dbid at files)))) ∙ lost-filled
